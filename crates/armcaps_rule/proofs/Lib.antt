@@ -1,0 +1,4 @@
+pub mod Leading
+pub mod Insertion
+pub mod Merging
+pub mod Overrides

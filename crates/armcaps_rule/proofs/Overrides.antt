@@ -1,0 +1,120 @@
+-- Forced values: what an override changes.
+use Rattle.std.proofs.Common.{length-append, ◌≡◌, ◌<◌, length, ◌⊎◌, inl, inr, true, false, cond, List, ◌∷◌, ◌++◌, Option, Some, None, refl, sym, ◌∙◌, ap, arith}
+use Rattle.std.specs.Prelude.{ℤ}
+use Rattle.std.specs.Ordering.{int_eq}
+use Rattle.armcaps_rule.specs.declared.rule.Rule.{Rule}
+use Rattle.armcaps_rule.specs.declared.rule.Rule.TheVariants.{Exact, Lower, Higher, HigherOrZero}
+use Rattle.armcaps_rule.specs.Rule.{fold_of, merged, forced_of}
+use Rattle.armcaps_rule.proofs.Leading.{int_eq_self, int_eq_true}
+use Rattle.armcaps_rule.proofs.Insertion.{by_bool, either, fold_insert}
+use Rattle.armcaps_rule.proofs.Merging.{merged_exact, merged_same, merged_commutes, merged_picks, absorbed, int_eq_not, fold_front}
+
+pub forced_none : (rule : Rule) (safe : ℤ) (values : List ℤ) → forced_of rule safe None values ≡ fold_of rule safe values
+unfolding forced_of
+forced_none Exact safe values = refl
+forced_none Lower safe values = refl
+forced_none Higher safe values = refl
+forced_none HigherOrZero safe values = refl
+
+pub forced_exact_safe : (safe override : ℤ) (values : List ℤ) → override ≡ safe → forced_of Exact safe (Some override) values ≡ safe
+unfolding forced_of
+forced_exact_safe safe override values e = rw (e, int_eq_self safe)
+
+pub forced_exact_other : (safe override : ℤ) (values : List ℤ) → (override ≡ safe → ⊥)
+    → forced_of Exact safe (Some override) values ≡ fold_of Exact safe values
+unfolding forced_of
+forced_exact_other safe override values e = rw (int_eq_not override safe e)
+
+-- with a rule other than Exact an override is one more value
+pub forced_more : (rule : Rule) (safe override : ℤ) (values : List ℤ) → (rule ≡ Exact → ⊥)
+    → forced_of rule safe (Some override) values ≡ fold_of rule safe (override ∷ values)
+unfolding forced_of
+forced_more Exact safe override values h = absurd (h refl)
+forced_more Lower safe override values h = refl
+forced_more Higher safe override values h = refl
+forced_more HigherOrZero safe override values h = refl
+
+more_insert : (rule : Rule) (safe override : ℤ) (before after : List ℤ) (x : ℤ) → 0 < length (before ++ after) → (rule ≡ Exact → ⊥)
+    → forced_of rule safe (Some override) (before ++ x ∷ after) ≡ merged rule safe (forced_of rule safe (Some override) (before ++ after)) x
+more_insert rule safe override before after x h ne =
+    forced_more rule safe override (before ++ x ∷ after) ne
+    ∙ fold_insert rule safe (override ∷ before) after x (omega arith)
+    ∙ ap (λ v. merged rule safe v x) (sym (forced_more rule safe override (before ++ after) ne))
+
+-- a value that is added to a forced value, in whatever place, is one merge
+pub forced_insert : (rule : Rule) (safe : ℤ) (over : Option ℤ) (before after : List ℤ) (x : ℤ) → 0 < length (before ++ after)
+    → forced_of rule safe over (before ++ x ∷ after) ≡ merged rule safe (forced_of rule safe over (before ++ after)) x
+forced_insert rule safe None before after x h =
+    rw (forced_none rule safe (before ++ x ∷ after), forced_none rule safe (before ++ after)) (fold_insert rule safe before after x h)
+forced_insert Exact safe (Some override) before after x h = by_bool (int_eq override safe)
+    (λ s. let e = int_eq_true override safe s in
+    forced_exact_safe safe override (before ++ x ∷ after) e
+    ∙ sym (merged_exact safe safe x ∙ either (int_eq safe x) safe)
+    ∙ ap (λ v. merged Exact safe v x) (sym (forced_exact_safe safe override (before ++ after) e)))
+    (λ s.
+    let ne : override ≡ safe → ⊥ = λ e. differs e s in
+    forced_exact_other safe override (before ++ x ∷ after) ne
+    ∙ fold_insert Exact safe before after x h
+    ∙ ap (λ v. merged Exact safe v x) (sym (forced_exact_other safe override (before ++ after) ne)))
+  where
+    differs : override ≡ safe → int_eq override safe ≡ false → ⊥
+    differs e s = let t : int_eq override safe ≡ true = rw e (int_eq_self safe) in cc
+forced_insert Lower safe (Some override) before after x h =
+    more_insert Lower safe override before after x h (λ e. cc)
+forced_insert Higher safe (Some override) before after x h =
+    more_insert Higher safe override before after x h (λ e. cc)
+forced_insert HigherOrZero safe (Some override) before after x h =
+    more_insert HigherOrZero safe override before after x h (λ e. cc)
+
+unsafe_more : (rule : Rule) (safe : ℤ) (before after : List ℤ) (x o : ℤ) → (rule ≡ Exact → ⊥) → (merged rule safe o x ≡ o → ⊥)
+    → forced_of rule safe (Some o) (before ++ x ∷ after) ≡ fold_of rule safe (before ++ x ∷ after)
+unsafe_more rule safe before after x o ne h =
+    forced_more rule safe o (before ++ x ∷ after) ne
+    ∙ absorbed rule safe before after x o (merged_commutes rule safe x o ∙ picked (merged_picks rule safe o x ne)) where
+      picked : (merged rule safe o x ≡ o) ⊎ (merged rule safe o x ≡ x) → merged rule safe o x ≡ x
+      picked (inl e) = absurd (h e)
+      picked (inr e) = e
+
+eq_not_false : (a b : ℤ) → a ≡ b → int_eq a b ≡ false → ⊥
+eq_not_false a b e s = let t : int_eq a b ≡ true = rw e (int_eq_self b) in cc
+
+-- an override that the value of a core in the list doesn't give way to leaves no mark
+pub unsafe_ignored : (rule : Rule) (safe : ℤ) (before after : List ℤ) (x o : ℤ) → (merged rule safe o x ≡ o → ⊥)
+    → forced_of rule safe (Some o) (before ++ x ∷ after) ≡ fold_of rule safe (before ++ x ∷ after)
+unsafe_ignored Exact safe before after x o h =
+    forced_exact_other safe o (before ++ x ∷ after)
+    (λ e. h (merged_exact safe o x ∙ rw e (either (int_eq safe x) safe)))
+unsafe_ignored Lower safe before after x o h = unsafe_more Lower safe before after x o (λ e. cc) h
+unsafe_ignored Higher safe before after x o h = unsafe_more Higher safe before after x o (λ e. cc) h
+unsafe_ignored HigherOrZero safe before after x o h = unsafe_more HigherOrZero safe before after x o (λ e. cc) h
+
+-- an override that the value of a core in the list gives way to counts as one more value
+pub safe_counts : (rule : Rule) (safe : ℤ) (before after : List ℤ) (x o : ℤ) → merged rule safe o x ≡ o
+    → forced_of rule safe (Some o) (before ++ x ∷ after) ≡ fold_of rule safe (o ∷ (before ++ x ∷ after))
+safe_counts Exact safe before after x o h = by_bool (int_eq o safe) safe_one other_one where
+  values : List ℤ
+  values = before ++ x ∷ after
+
+  some : 0 < length (before ++ x ∷ after)
+  some = omega (arith, length-append {A = ℤ})
+
+  safe_one : int_eq o safe ≡ true → forced_of Exact safe (Some o) (before ++ x ∷ after) ≡ fold_of Exact safe (o ∷ (before ++ x ∷ after))
+  safe_one s =
+      let e = int_eq_true o safe s in
+      forced_exact_safe safe o (before ++ x ∷ after) e
+      ∙ sym (fold_front Exact safe (before ++ x ∷ after) o some
+      ∙ ap (merged Exact safe (fold_of Exact safe (before ++ x ∷ after))) e
+      ∙ merged_commutes Exact safe (fold_of Exact safe (before ++ x ∷ after)) safe
+      ∙ merged_exact safe safe (fold_of Exact safe (before ++ x ∷ after))
+      ∙ either (int_eq safe (fold_of Exact safe (before ++ x ∷ after))) safe)
+
+  other_one : int_eq o safe ≡ false → forced_of Exact safe (Some o) (before ++ x ∷ after) ≡ fold_of Exact safe (o ∷ (before ++ x ∷ after))
+  other_one s =
+      let ne : o ≡ safe → ⊥ = λ e. eq_not_false o safe e s in
+      let same : o ≡ x = by_bool (int_eq o x) (λ t. int_eq_true o x t)
+      (λ t. absurd (ne (sym (sym (merged_exact safe o x ∙ ap (λ b. cond b o safe) t) ∙ h)))) in
+      forced_exact_other safe o (before ++ x ∷ after) ne
+      ∙ sym (absorbed Exact safe before after x o (ap (merged Exact safe x) same ∙ merged_same Exact safe x))
+safe_counts Lower safe before after x o h = forced_more Lower safe o (before ++ x ∷ after) (λ e. cc)
+safe_counts Higher safe before after x o h = forced_more Higher safe o (before ++ x ∷ after) (λ e. cc)
+safe_counts HigherOrZero safe before after x o h = forced_more HigherOrZero safe o (before ++ x ∷ after) (λ e. cc)

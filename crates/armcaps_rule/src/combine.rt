@@ -1,0 +1,51 @@
+ghost use Rattle.std.specs.Prelude.{◌≡◌, ◌<◌, length};
+ghost use Rattle.armcaps_rule.specs.Rule.{fold_of, forced_of, merged};
+
+use crate::rule::Rule;
+
+/// Merges the value that a field has so far with one more core's value (Linux, `arm64_ftr_safe_value`).
+/// Equal values stay. `safe` is the field's safe value, which only [`Rule::Exact`] uses.
+pub fn merge(rule: Rule, safe: i64, cur: i64, new: i64) -> i64
+    ensures { result ≡ merged rule safe cur new }
+{
+    match rule {
+        Rule::Exact => { if cur == new { cur } else { safe } }
+        Rule::Lower => cur.min(new),
+        Rule::Higher => cur.max(new),
+        Rule::HigherOrZero => {
+            if cur == 0 || new == 0 {
+                0
+            } else {
+                cur.max(new)
+            }
+        }
+    }
+}
+
+/// The one value for all of `values`.
+pub fn fold(rule: Rule, safe: i64, values: &[i64]) -> i64
+    requires { 0 < length values.now }
+    ensures { result ≡ fold_of rule safe values.now }
+{
+    let mut folded = values[0];
+    for value in &values[1..] {
+        folded = merge(rule, safe, folded, *value);
+    }
+    folded
+}
+
+/// The one value for all of `values` under an override from the command line. An Exact field takes only its safe
+/// value from there, and with any other rule the override counts as one more value.
+pub fn forced(rule: Rule, safe: i64, over: Option<i64>, values: &[i64]) -> i64
+    requires { 0 < length values.now }
+    ensures { result ≡ forced_of rule safe over values.now }
+{
+    let folded = fold(rule, safe, values);
+    match over {
+        None => folded,
+        Some(value) => match rule {
+            Rule::Exact => { if value == safe { safe } else { folded } }
+            Rule::Lower | Rule::Higher | Rule::HigherOrZero => merge(rule, safe, folded, value),
+        },
+    }
+}
