@@ -1,0 +1,23 @@
+//! Where armcaps meets the outside: sources of bytes, sinks of bytes, and counts of what failed.
+#![tactic(auto)]
+
+mod count;
+mod mem_sink;
+mod mem_source;
+mod reading;
+mod real_sink;
+mod real_source;
+mod sink;
+mod source;
+mod sure_source;
+mod writing;
+
+pub use mem_sink::MemSink;
+pub use mem_source::MemSource;
+pub use reading::{InFault, read_to_limit};
+pub use real_sink::RealSink;
+pub use real_source::RealSource;
+pub use sink::Sink;
+pub use source::{Failed, Source};
+pub use sure_source::SureSource;
+pub use writing::{WriteFault, write_whole};

@@ -1,0 +1,155 @@
+//! The program's one call.
+
+ghost use Rattle.std.specs.Prelude.{◌≡◌, ◌≢◌, ℕ, ◌≤◌, ◌⊎◌, ◌↔◌, List, Some, IsSome, true, false, map, string_bytes};
+ghost use Rattle.armcaps_io.specs.Causes.{Rose};
+ghost use Rattle.armcaps_io.specs.Streams.{Keeps};
+ghost use Rattle.armcaps_top.specs.Run.{is_form, output_of, Writes, WritesPrefix, IsRefused, IsReadWhole};
+
+use crate::plain::Plain;
+use crate::report::report;
+use armcaps_io::{InFault, Sink, Source, read_to_limit, write_whole};
+use std::alloc::Global;
+
+/// The most bytes that an input may have.
+const LIMIT: usize = 135_266_304;
+
+/// How a run ends.
+#[derive(Clone, Copy)]
+enum Ending {
+    Done,
+    Usage,
+    Refused,
+    ReadFault,
+    WriteFault,
+    Memory,
+}
+
+impl Ending {
+    ghost use Rattle.armcaps_top.specs.Ending.{status_of};
+
+    /// The status that the process ends with.
+    fn status(self) -> u8
+        ensures { result ≡ status_of self }
+    {
+        match self {
+            Ending::Done => 0,
+            Ending::Usage => 2,
+            Ending::Refused => 3,
+            Ending::ReadFault => 4,
+            Ending::WriteFault => 5,
+            Ending::Memory => 6,
+        }
+    }
+
+    /// The line for the error stream, and nothing where the work is done.
+    fn text(self) -> &'static str {
+        match self {
+            Ending::Done => "",
+            Ending::Usage => "armcaps: usage: armcaps report\n",
+            Ending::Refused => "armcaps: input refused\n",
+            Ending::ReadFault => "armcaps: read fault\n",
+            Ending::WriteFault => "armcaps: write fault\n",
+            Ending::Memory => "armcaps: want of memory\n",
+        }
+    }
+}
+
+fn is_form(words: &[String]) -> bool
+    ensures { result ≡ is_form (map string_bytes words.now) }
+{
+    match words {
+        [word] => word.as_str() == "report",
+        _ => false,
+    }
+}
+
+/// Reads a document and writes its report.
+fn report_input<S: Source, O: Sink>(alloc: Global, input: &mut S, out: &mut O) -> Ending
+    ensures done { result ≡ Ending.Done → Writes (S.left input.old) (O.held out.old) (O.held out.new) × IsReadWhole (S.left input.old) (S.left input.new) }
+    ensures usage { result ≢ Ending.Usage }
+    ensures refused { result ≡ Ending.Refused → IsRefused (S.left input.old) }
+    ensures read_fault { result ≡ Ending.ReadFault → Rose (S.faults input.old) (S.faults input.new) }
+    ensures write_fault { result ≡ Ending.WriteFault → Rose (O.faults out.old) (O.faults out.new) × WritesPrefix (S.left input.old) (O.held out.old) (O.held out.new) }
+    ensures silent { result ≢ Ending.Done → result ≢ Ending.WriteFault → Keeps (O.held out.old) (O.held out.new) }
+    ensures input_count { S.faults input.old ≤ S.faults input.new }
+    ensures out_count { O.faults out.old ≤ O.faults out.new }
+{
+    let bytes = match read_to_limit(alloc, input, LIMIT) {
+        Ok(bytes) => bytes,
+        Err(InFault::Read) => return Ending::ReadFault,
+        Err(InFault::TooLong { .. }) => return Ending::Refused,
+        Err(InFault::Memory) => return Ending::Memory,
+    };
+    let plain = match Plain::read(alloc, &bytes) {
+        Ok(Some(plain)) => plain,
+        Ok(None) => return Ending::Refused,
+        Err(_) => return Ending::Memory,
+    };
+    let Ok(text) = report(alloc, &plain) else {
+        return Ending::Memory;
+    };
+    match write_whole(out, text.as_bytes()) {
+        Ok(()) => Ending::Done,
+        Err(_) => Ending::WriteFault,
+    }
+}
+
+/// Writes the line of an ending to the error stream. A fault there changes no status.
+fn tell<E: Sink>(err: &mut E, ending: Ending)
+    ensures quiet { ending ≡ Ending.Done → Keeps (E.held err.old) (E.held err.new) }
+    ensures count { E.faults err.old ≤ E.faults err.new }
+{
+    if let Ending::Done = ending {
+        return;
+    }
+    let _ = write_whole(err, ending.text().as_bytes());
+}
+
+/// Runs the program: `words` is the command line without the program's name. The words are the one
+/// word `report`: reads a machine text from `input` and writes its report to `out`. Every other
+/// status than 0 has a line on `err`.
+///
+/// - 0: done.
+/// - 2: the words are no form. They are judged without memory, and nothing is read.
+/// - 3: the input is no document, or has more than 135,266,304 bytes.
+/// - 4: `input` failed.
+/// - 5: `out` failed, and has a first part of the output.
+/// - 6: there was no memory, before the first byte to `out`.
+pub fn run<S: Source, O: Sink, E: Sink>(
+    alloc: Global,
+    words: &[String],
+    input: &mut S,
+    out: &mut O,
+    err: &mut E,
+) -> u8
+    // The whole input was read, it is a document, and `out` got its report and nothing else.
+    ensures done { result ≡ 0 → Writes (S.left input.old) (O.held out.old) (O.held out.new) × IsReadWhole (S.left input.old) (S.left input.new) }
+    ensures quiet { result ≡ 0 → Keeps (E.held err.old) (E.held err.new) }
+
+    // The words are no form, and the input is as it was.
+    ensures usage { (result ≡ 2) ↔ (is_form (map string_bytes words.now) ≡ false) }
+    ensures unread { result ≡ 2 → Keeps (S.left input.old) (S.left input.new) }
+
+    // The input's bytes are no document.
+    ensures refused { result ≡ 3 → IsRefused (S.left input.old) }
+
+    // The input, or `out`, failed in this call; `out` got a first part of the output.
+    ensures read_fault { result ≡ 4 → Rose (S.faults input.old) (S.faults input.new) }
+    ensures write_fault { result ≡ 5 → Rose (O.faults out.old) (O.faults out.new) × WritesPrefix (S.left input.old) (O.held out.old) (O.held out.new) }
+
+    // In every status but 0 and 5 `out` got nothing.
+    ensures silent { result ≢ 0 → result ≢ 5 → Keeps (O.held out.old) (O.held out.new) }
+    ensures statuses { (result ≡ 0) ⊎ ((2 ≤ result) × (result ≤ 6)) }
+
+    // A form, a document and no failure give the whole output, or there was no memory.
+    ensures complete { (bytes : List ℕ) → is_form (map string_bytes words.now) ≡ true → S.left input.old ≡ Some bytes → IsSome (output_of bytes) →
+        (Rose (S.faults input.old) (S.faults input.new) → ⊥) → (Rose (O.faults out.old) (O.faults out.new) → ⊥) → (result ≡ 0) ⊎ (result ≡ 6) }
+{
+    let ending = if is_form(words) {
+        report_input(alloc, input, out)
+    } else {
+        Ending::Usage
+    };
+    tell(err, ending);
+    ending.status()
+}
