@@ -1,0 +1,7 @@
+-- What the contracts of this crate cite.
+pub mod Core
+pub mod Facts
+pub mod Overriding
+pub mod Row
+pub mod RowOf
+pub mod Rows
