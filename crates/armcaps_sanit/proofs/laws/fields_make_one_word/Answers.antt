@@ -1,0 +1,8 @@
+use Rattle.armcaps_sanit.proofs.Words.{made_of, only_one}
+use Rattle.armcaps_sanit.proofs.laws.fields_make_one_word.Goals as goal
+
+pub returns-clause-made : goal.returns-clause-made
+returns-clause-made c = made_of c.args.reg
+
+pub returns-clause-only : goal.returns-clause-only
+returns-clause-only c = only_one c.args.reg

@@ -1,0 +1,4 @@
+pub mod Fields
+pub mod System
+pub mod Notes
+pub mod Kept

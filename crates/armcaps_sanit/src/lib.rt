@@ -1,0 +1,14 @@
+//! The words that all admitted cores keep in common, and what overrides make of one core's fields.
+#![tactic(auto)]
+
+mod field;
+mod fields;
+pub mod laws;
+mod noted;
+mod system;
+#[cfg(test)]
+mod tests;
+
+pub use field::{local, note};
+pub use noted::Note;
+pub use system::System;
