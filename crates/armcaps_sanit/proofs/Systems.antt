@@ -23,9 +23,9 @@ use Rattle.armcaps_tables.specs.Rows.{rows_of, id_aa64pfr0_rows, id_aa64pfr1_row
 use Rattle.armcaps_tables.proofs.Places.{row_safe, row_in_word}
 use Rattle.armcaps_tables.specs.Core.{Core, core_word}
 use Rattle.armcaps_tables.specs.Overriding.{override_of, override_fits, AllFit}
-use Rattle.armcaps_sanit.specs.Fields.{field_in, value_fits, word_of, ValuesFit}
+use Rattle.armcaps_sanit.specs.Fields.{field_in, value_fits, word_of, ValuesFit, IsMadeOf}
 use Rattle.armcaps_sanit.specs.System.{field_values, system_field, system_word, system_words, merged_word, merged_words}
-use Rattle.armcaps_sanit.specs.Kept.{kept, values_at, words_of, AreKept, FieldsFit}
+use Rattle.armcaps_sanit.specs.Kept.{kept, values_at, kept_words, AreKept, FieldsFit}
 use Rattle.armcaps_sanit.proofs.Keeping.{SameFrom, values_here}
 use Rattle.armcaps_sanit.proofs.Words.{made_of, word_of-same}
 
@@ -190,9 +190,9 @@ few_rows CtrEl0 = lit≤ tt
 few_rows DczidEl0 = lit≤ tt
 
 -- a register's word, of what is kept
-pub kept_word : (fields : List (List ℤ)) (words : List ℕ) (register : SysReg) → words_of fields ≡ words
+pub kept_word : (fields : List (List ℤ)) (words : List ℕ) (register : SysReg) → kept_words fields ≡ words
     → core_word words register ≡ word_of (kept (values_at fields register)) (rows_of register)
-unfolding words_of
+unfolding kept_words
 kept_word fields words register is =
     ap (λ (w : Core). core_word w register) (sym is) ∙ word_at (λ r. word_of (kept (values_at fields r)) (rows_of r)) register
 
@@ -200,7 +200,7 @@ no_row : Row
 no_row = record { name = []; shift = 0; width = 1; signed = false; rule = Lower; safe = pos 0; visible = false; strict = false }
 
 -- a field's value, of what is kept
-pub kept_field : (fields : List (List ℤ)) (words : List ℕ) (register : SysReg) (index : ℕ) → words_of fields ≡ words → FieldsFit fields
+pub kept_field : (fields : List (List ℤ)) (words : List ℕ) (register : SysReg) (index : ℕ) → kept_words fields ≡ words → FieldsFit fields
     → index < length (rows_of register)
     → option_map (λ row. field_in row (core_word words register)) (slice_get (rows_of register) index)
     ≡ Some (get_or (values_at fields register) index (pos 0))
@@ -215,8 +215,8 @@ kept_field fields words register index is fit within =
 -- kept values that are those over some cores stand for the words over them
 pub kept_system : (overrides : List (Option ℤ)) (cores : List Core) (fields : List (List ℤ))
     → ((register : SysReg) → AreKept (values_at fields register) (rows_of register) (system_field overrides cores register))
-    → words_of fields ≡ system_words overrides cores
-unfolding words_of system_words system_word
+    → kept_words fields ≡ system_words overrides cores
+unfolding kept_words system_words system_word
 kept_system overrides cores fields are =
     map-same (λ r. word_of (kept (values_at fields r)) (rows_of r)) (system_word overrides cores) registers
     (λ register. word_of-same (kept (values_at fields register)) (system_field overrides cores register) (rows_of register) (are register))
@@ -242,10 +242,10 @@ merged_at old fields core place values word h same is are index row at =
     ∙ ap (λ (vs : List ℤ). merged row.rule row.safe (kept vs index row) (field_in row word)) (same place (omega arith) ∙ sym (values_here old place h))
     ∙ ap (λ n. merged row.rule row.safe (kept (values_at old (get_or registers place MidrEl1)) index row) (field_in row n)) is
 
-pub kept_merged : (old fields : List (List ℤ)) (words core : Core) → words_of old ≡ words → FieldsFit old
+pub kept_merged : (old fields : List (List ℤ)) (words core : Core) → kept_words old ≡ words → FieldsFit old
     → ((register : SysReg) → AreKept (values_at fields register) (rows_of register) (merged_field old core register))
-    → words_of fields ≡ merged_words words core
-unfolding words_of merged_words merged_word
+    → kept_words fields ≡ merged_words words core
+unfolding kept_words merged_words merged_word
 kept_merged old fields words core is fit are =
     map-same (λ r. word_of (kept (values_at fields r)) (rows_of r)) (λ r. merged_word r (core_word words r) (core_word core r)) registers
     (λ register. word_of-same (kept (values_at fields register)) _ (rows_of register) (λ index row at.
@@ -261,14 +261,20 @@ kept_merged_fits old fields core fit are register index row at =
     (merged_passes (value_fits row) row.rule row.safe (kept (values_at old register) index row) (field_in row (core_word core register))
     (row_safe register index row at) (fit register index row at) (field_in_fits row (core_word core register) (row_in_word register index row at).0))
 
+-- a register's word over some cores has the values over them in its fields, and nothing else
+pub system_word_made : (overrides : List (Option ℤ)) (cores : List Core) (register : SysReg) → AllFit overrides → 0 < length cores
+    → IsMadeOf (system_field overrides cores register) (rows_of register) (system_word overrides cores register)
+unfolding system_word
+system_word_made overrides cores register fit some =
+    made_of register (system_field overrides cores register) (system_field_fits overrides fit cores some register)
+
 -- the fields of the words over some cores are the values over them
 pub system_field_at : (overrides : List (Option ℤ)) (cores : List Core) (words : Core) (register : SysReg) (index : ℕ) (row : Row) → AllFit overrides
     → 0 < length cores → words ≡ system_words overrides cores → slice_get (rows_of register) index ≡ Some row
     → field_in row (core_word words register) ≡ system_field overrides cores register index row
-unfolding system_word
 system_field_at overrides cores words register index row fit some stands at =
     ap (field_in row) (ap (λ (w : Core). core_word w register) stands ∙ system_word_at overrides cores register)
-    ∙ (made_of register (system_field overrides cores register) (system_field_fits overrides fit cores some register)).fields index row at
+    ∙ (system_word_made overrides cores register fit some).fields index row at
 
 pub field_stands : (overrides : List (Option ℤ)) (cores : List Core) (words : Core) (register : SysReg) (index : ℕ) (listed : Option Row) (value : ℤ)
     → AllFit overrides → 0 < length cores → words ≡ system_words overrides cores → slice_get (rows_of register) index ≡ listed

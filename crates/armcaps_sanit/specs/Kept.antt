@@ -20,8 +20,8 @@ abbrev pub values_at : List (List ℤ) → SysReg → List ℤ
 values_at fields register = slice_index_or fields (place_of register) []
 
 -- the words of what is kept
-unfoldable pub words_of : List (List ℤ) → List ℕ
-words_of fields = map (λ register. word_of (kept (values_at fields register)) (rows_of register)) registers
+unfoldable pub kept_words : List (List ℤ) → List ℕ
+kept_words fields = map (λ register. word_of (kept (values_at fields register)) (rows_of register)) registers
 
 -- each field can have the value that is kept
 abbrev pub FieldsFit : List (List ℤ) → Type 0

@@ -6,8 +6,7 @@ use Rattle.armcaps_rule.specs.Rule.{merged}
 use Rattle.armcaps_sanit.specs.declared.noted.Note.{Note}
 use Rattle.armcaps_sanit.specs.declared.noted.Note.TheVariants.{None as NoOverride, Forced, Ignored, Already}
 
--- an override is taken where merging it with the boot core's value gives the override; it forces the field where the
--- two differ (Linux, arch/arm64/kernel/cpufeature.c, `init_cpu_ftr_reg`: "forced", "ignoring override", "already set")
+-- taken where merging the two gives the override, and then forced where they differ (Linux, `init_cpu_ftr_reg`)
 abbrev pub note_of : Rule → ℤ → Option ℤ → ℤ → Note
 note_of rule safe None value = NoOverride
 note_of rule safe (Some override) value =

@@ -24,14 +24,14 @@ unfoldable pub system_word : List (Option ℤ) → List Core → SysReg → ℕ
 system_word overrides cores register = word_of (system_field overrides cores register) (rows_of register)
 
 -- all words over some cores, by the registers' places; those of the first three registers, which have no fields, are 0
-unfoldable pub system_words : List (Option ℤ) → List Core → Core
+unfoldable pub system_words : List (Option ℤ) → List Core → List ℕ
 system_words overrides cores = map (system_word overrides cores) registers
 
--- a register's word after one more core, whose word is `word`: each field is merged
+-- a register's word after one more core: each field is merged with the field in the core's word
 unfoldable pub merged_word : SysReg → ℕ → ℕ → ℕ
 merged_word register current word =
     word_of (λ index row. merged row.rule row.safe (field_in row current) (field_in row word)) (rows_of register)
 
 -- all words after one more core
-unfoldable pub merged_words : Core → Core → Core
+unfoldable pub merged_words : List ℕ → Core → List ℕ
 merged_words words core = map (λ register. merged_word register (core_word words register) (core_word core register)) registers

@@ -24,9 +24,9 @@ impl Model for System {
 
     ghost Value = { List ℕ };
 
-    ghost use Rattle.armcaps_sanit.specs.Kept.{words_of, FieldsFit};
+    ghost use Rattle.armcaps_sanit.specs.Kept.{kept_words, FieldsFit};
 
-    ghost view = { λ system. words_of system.fields };
+    ghost view = { λ system. kept_words system.fields };
 
     ghost invariant = { λ system. FieldsFit system.fields };
 }
