@@ -1,0 +1,6 @@
+pub mod Digits
+pub mod WordLemmas
+pub mod Names
+pub mod Assigning
+pub mod Reach
+pub mod Reading
