@@ -1,0 +1,11 @@
+pub mod LineLemmas
+pub mod TokenLemmas
+pub mod NumberLemmas
+pub mod Groups
+pub mod Pushes
+pub mod Fields
+pub mod Unrefused
+pub mod Agreement
+pub mod Walk
+pub mod Reading
+pub mod Whole
