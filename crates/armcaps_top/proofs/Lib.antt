@@ -1,5 +1,7 @@
-pub mod Numbers
-pub mod Lines
-pub mod Readings
 pub mod Ranges
-pub mod Fields
+pub mod Roles
+pub mod Admitted
+pub mod Standing
+pub mod Agreeing
+pub mod Joining
+pub mod Refused

@@ -1,7 +1,6 @@
-pub mod Form
-pub mod Plain
-pub mod Reader
-pub mod Kept
+pub mod Admission
+pub mod Document
 pub mod Report
-pub mod Run
+pub mod Refusals
 pub mod Ending
+pub mod Run

@@ -1,61 +1,68 @@
--- The report of a plain machine. Its format is this project's own.
-use Rattle.std.specs.Prelude.{ℕ, ◌==◌, ◌+◌, ◌*◌, ◌^◌, ◌-◌, ℤ, pos, Bool, false, List, [], ◌∷◌, ◌++◌, length, map, slice_index, None, Some, codes, if◌then◌else◌}
-use Rattle.std.specs.List.{flat_map, filter_map, list_any, range_with_len}
+-- The report of a machine. Its format is this project's own.
+use Rattle.std.specs.Prelude.{ℕ, ℤ, ◌^◌, ◌-◌, false, List, [], ◌∷◌, ◌++◌, length, take, codes, Option, slice_get, slice_index_or}
+use Rattle.std.specs.Option.{option_map_or}
+use Rattle.std.specs.List.{flat_map, range_with_len}
 use Rattle.std.specs.Fmt.{decimal, digits, padded_integral, format_spec}
-use Rattle.armcaps_bits.specs.Field.{field_value, field_bits}
-use Rattle.armcaps_rule.specs.Rule.{fold_of}
-use Rattle.armcaps_rule.specs.declared.rule.Rule.TheVariants.{Lower}
-use Rattle.armcaps_top.specs.Plain.{Reading}
+use Rattle.armcaps_enc.specs.declared.register.SysReg.{SysReg}
+use Rattle.armcaps_enc.specs.Registers.{name_of, tracked}
+use Rattle.armcaps_tables.specs.Core.{Core, core_word}
+use Rattle.armcaps_tables.specs.Overriding.{override_of}
+use Rattle.armcaps_tables.specs.Row.{Row}
+use Rattle.armcaps_tables.specs.Rows.{rows_of}
+use Rattle.armcaps_sanit.specs.declared.noted.Note.{Note}
+use Rattle.armcaps_sanit.specs.declared.noted.Note.TheVariants as note
+use Rattle.armcaps_sanit.specs.Fields.{field_in}
+use Rattle.armcaps_sanit.specs.Notes.{note_of}
+use Rattle.armcaps_sanit.specs.System.{system_word}
+use Rattle.armcaps_text.specs.Document.{Reading}
+use Rattle.armcaps_top.specs.Admission.{admitted_cores, role_of}
+use Rattle.armcaps_top.specs.declared.admission.Role.{Role}
+use Rattle.armcaps_top.specs.declared.admission.Role.TheVariants.{Boot, Early, Absent}
 
--- whether a list of cores begins with this one
-abbrev pub is_first : ℕ → List ℕ → Bool
-is_first core [] = false
-is_first core (first ∷ cores) = first == core
+-- the name of a role
+abbrev pub role_name : Role → List ℕ
+role_name Boot = codes "boot"
+role_name Early = codes "early"
+role_name Absent = codes "absent"
 
--- how a core came up
-abbrev pub role_of : List ℕ → ℕ → List ℕ
-role_of up core =
-    if is_first core up then codes "boot" else
-    if list_any (λ other. other == core) up then codes "early" else codes "absent"
+-- the line of a core
+abbrev pub core_line : ℕ → Role → List ℕ
+core_line core role = codes "core " ++ decimal core ++ codes " " ++ role_name role ++ 10 ∷ []
 
-abbrev pub core_line : List ℕ → ℕ → List ℕ
-core_line up core = codes "core " ++ decimal core ++ codes " " ++ role_of up core ++ 10 ∷ []
-
--- a word in 16 hexadecimal digits
+-- a word: 0x and 16 lower-case hexadecimal digits
 unfoldable pub word_text : ℕ → List ℕ
-word_text word = padded_integral (format_spec 32 0 4 16 (2 ^ 64 - 1)) false [] (digits 16 false word)
+word_text word = codes "0x" ++ padded_integral (format_spec 32 0 4 16 (2 ^ 64 - 1)) false [] (digits 16 false word)
 
--- the lowest bits of the fields of ID_AA64ISAR0_EL1, in rising order: aes, sha1, sha2, crc32, atomic, rdm, sha3, sm3, sm4, dp,
--- fhm, ts, tlb, rndr. Each is unsigned and has four bits, the rule Lower and the safe value 0 (Arm DDI 0487, ID_AA64ISAR0_EL1)
-abbrev pub isar0_shifts : List ℕ
-isar0_shifts = 4 ∷ 8 ∷ 12 ∷ 16 ∷ 20 ∷ 28 ∷ 32 ∷ 36 ∷ 40 ∷ 44 ∷ 48 ∷ 52 ∷ 56 ∷ 60 ∷ []
+-- the line of a system register
+abbrev pub register_line : SysReg → ℕ → List ℕ
+register_line register word = codes "reg " ++ name_of register ++ codes " " ++ word_text word ++ 10 ∷ []
 
--- the system's field: the fold of the cores' fields
-abbrev pub system_field : List ℕ → ℕ → ℤ
-system_field words shift = fold_of Lower (pos 0) (map (field_value false shift 4) words)
+-- a register's name without its exception level, as `id_aa64pfr0`
+unfoldable pub short_name : SysReg → List ℕ
+short_name register = take (length (name_of register) - 4) (name_of register)
 
--- the word with these fields at their places and 0 in all other bits
-abbrev pub word_of : (ℕ → ℤ) → List ℕ → ℕ
-word_of field [] = 0
-word_of field (shift ∷ shifts) = field_bits 4 (field shift) * 2 ^ shift + word_of field shifts
+-- the line of a field: what its override came to on the boot core; nothing where it has none
+abbrev pub note_line : SysReg → Row → Note → List ℕ
+note_line register row note.None = []
+note_line register row note.Forced = codes "note " ++ short_name register ++ codes "." ++ row.name ++ codes " forced\n"
+note_line register row note.Ignored = codes "note " ++ short_name register ++ codes "." ++ row.name ++ codes " ignored\n"
+note_line register row note.Already = codes "note " ++ short_name register ++ codes "." ++ row.name ++ codes " already\n"
 
--- the values of the cores that came up, in rising core number
-abbrev pub admitted : Reading → List ℕ
-admitted reading = filter_map
-    (λ core. if list_any (λ other. other == core) reading.up then Some (slice_index reading.values core) else None)
-    (range_with_len 0 (length reading.values))
+-- the line of the field at an index of a register's table
+unfoldable pub note_line_at : List (Option ℤ) → Core → SysReg → ℕ → List ℕ
+note_line_at overrides boot register index = option_map_or
+    (λ row. note_line register row (note_of row.rule row.safe (override_of overrides register index) (field_in row (core_word boot register))))
+    (slice_get (rows_of register) index) []
 
--- the system register
-unfoldable pub system_word : List ℕ → ℕ
-system_word words = word_of (system_field words) isar0_shifts
+-- the lines of a register's fields
+abbrev pub note_lines : List (Option ℤ) → Core → SysReg → List ℕ
+note_lines overrides boot register = flat_map (note_line_at overrides boot register) (range_with_len 0 (length (rows_of register)))
 
--- the line of the system register
-unfoldable pub register_line : ℕ → List ℕ
-register_line word = codes "reg id_aa64isar0_el1 0x" ++ word_text word ++ 10 ∷ []
-
--- the report of a machine
-unfoldable pub report_of : Reading → List ℕ
-report_of reading =
+-- the report of a machine under overrides
+unfoldable pub report_of : List (Option ℤ) → Reading → List ℕ
+report_of overrides reading =
     codes "armcaps report 1\n" ++
-    flat_map (core_line reading.up) (range_with_len 0 (length reading.values)) ++
-    register_line (system_word (admitted reading)) ++ codes "end\n"
+    flat_map (λ core. core_line core (role_of reading core)) (range_with_len 0 (length reading.cores)) ++
+    flat_map (λ register. register_line register (system_word overrides (admitted_cores reading) register)) tracked ++
+    flat_map (note_lines overrides (slice_index_or reading.cores reading.boot [])) tracked ++
+    codes "end\n"

@@ -1,8 +1,10 @@
 //! The top call of armcaps: a machine text in, a report out.
 #![tactic(auto)]
 
-mod plain;
+mod admission;
+mod ending;
 mod program;
+mod refusal;
 mod report;
 #[cfg(test)]
 mod tests;

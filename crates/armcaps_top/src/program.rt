@@ -1,58 +1,24 @@
 //! The program's one call.
 
-ghost use Rattle.std.specs.Prelude.{◌≡◌, ◌≢◌, ℕ, ◌≤◌, ◌⊎◌, ◌↔◌, List, Some, IsSome, true, false, map, string_bytes};
+ghost use Rattle.std.specs.Prelude.{◌≡◌, ◌≢◌, ℕ, ◌<◌, ◌≤◌, IfOk, IfErr, vec_len, ◌⊎◌, ◌↔◌, List, [], Some, None, IsSome, IfSome, true, false, map, string_bytes};
 ghost use Rattle.armcaps_io.specs.Causes.{Rose};
 ghost use Rattle.armcaps_io.specs.Streams.{Keeps};
+ghost use Rattle.armcaps_text.specs.Document.{reading_of};
+ghost use Rattle.armcaps_top.specs.Document.{document};
+ghost use Rattle.armcaps_top.specs.Ending.{status_of};
+ghost use Rattle.armcaps_top.specs.Refusals.{IsRefusalOf, Refuses};
+ghost use Rattle.armcaps_top.specs.Report.{report_of};
 ghost use Rattle.armcaps_top.specs.Run.{is_form, output_of, Writes, WritesPrefix, IsRefused, IsReadWhole};
 
-use crate::plain::Plain;
+use crate::ending::Ending;
+use crate::refusal::{INPUT_LIMIT, Refusal};
 use crate::report::report;
 use armcaps_io::{InFault, Sink, Source, read_to_limit, write_whole};
-use std::alloc::Global;
-
-/// The most bytes that an input may have.
-const LIMIT: usize = 135_266_304;
-
-/// How a run ends.
-#[derive(Clone, Copy)]
-enum Ending {
-    Done,
-    Usage,
-    Refused,
-    ReadFault,
-    WriteFault,
-    Memory,
-}
-
-impl Ending {
-    ghost use Rattle.armcaps_top.specs.Ending.{status_of};
-
-    /// The status that the process ends with.
-    fn status(self) -> u8
-        ensures { result ≡ status_of self }
-    {
-        match self {
-            Ending::Done => 0,
-            Ending::Usage => 2,
-            Ending::Refused => 3,
-            Ending::ReadFault => 4,
-            Ending::WriteFault => 5,
-            Ending::Memory => 6,
-        }
-    }
-
-    /// The line for the error stream, and nothing where the work is done.
-    fn text(self) -> &'static str {
-        match self {
-            Ending::Done => "",
-            Ending::Usage => "armcaps: usage: armcaps report\n",
-            Ending::Refused => "armcaps: input refused\n",
-            Ending::ReadFault => "armcaps: read fault\n",
-            Ending::WriteFault => "armcaps: write fault\n",
-            Ending::Memory => "armcaps: want of memory\n",
-        }
-    }
-}
+use armcaps_tables::Overrides;
+use armcaps_text::{Machine, TextRefused, laws};
+use arrayvec::ArrayString;
+use std::alloc::{AllocError, Global};
+use std::fmt::Write;
 
 fn is_form(words: &[String]) -> bool
     ensures { result ≡ is_form (map string_bytes words.now) }
@@ -63,29 +29,64 @@ fn is_form(words: &[String]) -> bool
     }
 }
 
+/// The machine of an input that is a document, or else how the run ends.
+#[tactic(auto, unfolding(crate::specs::Document::document))]
+fn machine_of(alloc: Global, bytes: &[u8]) -> Result<Machine, Ending>
+    ensures read { IfOk result (λ machine. document bytes.now ≡ Some (reading_of machine)) }
+    ensures boot { IfOk result (λ machine. machine.boot < vec_len machine.cores) }
+    ensures refused { IfErr result (λ ending. Refuses ending bytes.now) }
+{
+    match Machine::read(alloc, bytes) {
+        Ok((machine, place)) if place == bytes.len() => Ok(machine),
+        Ok((_, place)) => Err(Ending::Refused(Refusal::Trailing {
+            extra: bytes.len() - place,
+        })),
+        Err(TextRefused::Line { line, kind }) => Err(Ending::Refused(Refusal::Line { line, kind })),
+        Err(TextRefused::Memory) => Err(Ending::Memory),
+    }
+}
+
+/// The report of a machine without overrides.
+#[tactic(auto, using(crate::proofs::Agreeing::report_without))]
+fn plain_report(alloc: Global, machine: &Machine) -> Result<String, AllocError>
+    requires { machine.now.boot < vec_len machine.now.cores }
+    ensures { IfOk result (λ text. string_bytes text ≡ report_of [] (reading_of machine.now)) }
+{
+    report(alloc, machine, &Overrides::none())
+}
+
+/// What is refused is no document.
+#[tactic(auto, using(crate::proofs::Refused::no_document))]
+fn refusals_are_no_documents()
+    ensures { (refusal : Refusal) (input : List ℕ) → IsRefusalOf refusal input → document input ≡ None }
+{
+    laws::readings_are_whole();
+}
+
 /// Reads a document and writes its report.
 fn report_input<S: Source, O: Sink>(alloc: Global, input: &mut S, out: &mut O) -> Ending
     ensures done { result ≡ Ending.Done → Writes (S.left input.old) (O.held out.old) (O.held out.new) × IsReadWhole (S.left input.old) (S.left input.new) }
     ensures usage { result ≢ Ending.Usage }
-    ensures refused { result ≡ Ending.Refused → IsRefused (S.left input.old) }
+    ensures refusal { (refusal : Refusal) → result ≡ Ending.Refused refusal → IfSome (S.left input.old) (IsRefusalOf refusal) }
+    ensures refused { status_of result ≡ 3 → IsRefused (S.left input.old) }
     ensures read_fault { result ≡ Ending.ReadFault → Rose (S.faults input.old) (S.faults input.new) }
     ensures write_fault { result ≡ Ending.WriteFault → Rose (O.faults out.old) (O.faults out.new) × WritesPrefix (S.left input.old) (O.held out.old) (O.held out.new) }
     ensures silent { result ≢ Ending.Done → result ≢ Ending.WriteFault → Keeps (O.held out.old) (O.held out.new) }
     ensures input_count { S.faults input.old ≤ S.faults input.new }
     ensures out_count { O.faults out.old ≤ O.faults out.new }
 {
-    let bytes = match read_to_limit(alloc, input, LIMIT) {
+    refusals_are_no_documents();
+    let bytes = match read_to_limit(alloc, input, INPUT_LIMIT) {
         Ok(bytes) => bytes,
         Err(InFault::Read) => return Ending::ReadFault,
-        Err(InFault::TooLong { .. }) => return Ending::Refused,
+        Err(InFault::TooLong { .. }) => return Ending::Refused(Refusal::TooLong),
         Err(InFault::Memory) => return Ending::Memory,
     };
-    let plain = match Plain::read(alloc, &bytes) {
-        Ok(Some(plain)) => plain,
-        Ok(None) => return Ending::Refused,
-        Err(_) => return Ending::Memory,
+    let machine = match machine_of(alloc, &bytes) {
+        Ok(machine) => machine,
+        Err(ending) => return ending,
     };
-    let Ok(text) = report(alloc, &plain) else {
+    let Ok(text) = plain_report(alloc, &machine) else {
         return Ending::Memory;
     };
     match write_whole(out, text.as_bytes()) {
@@ -102,7 +103,9 @@ fn tell<E: Sink>(err: &mut E, ending: Ending)
     if let Ending::Done = ending {
         return;
     }
-    let _ = write_whole(err, ending.text().as_bytes());
+    let mut line = ArrayString::<96>::new();
+    let _ = writeln!(line, "armcaps: {ending}");
+    let _ = write_whole(err, line.as_bytes());
 }
 
 /// Runs the program: `words` is the command line without the program's name. The words are the one

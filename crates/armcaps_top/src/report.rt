@@ -1,147 +1,162 @@
-//! The report of a plain machine.
+//! The report of a machine.
 
-ghost use Rattle.std.specs.Prelude.{◌≡◌, ◌<◌, ◌^◌, ◌==◌, ◌++◌, if◌then◌else◌, ◌+◌, ◌*◌, false, pos, map, IfOk, OnOk, string_bytes};
-ghost use Rattle.armcaps_top.specs.Report.{register_line, role_of, core_line, system_field, system_word, admitted, report_of};
-ghost use Rattle.std.specs.List.{list_any};
-ghost use Rattle.armcaps_bits.specs.Field.{field_bits, field_value};
-ghost use Rattle.armcaps_rule.specs.Rule.{fold_of};
-ghost use Rattle.armcaps_rule.specs.declared.rule.Rule.TheVariants.{Lower};
-ghost use Rattle.std.specs.Option.{option_to_list};
-ghost use Rattle.armcaps_top.specs.Kept.{reading};
+ghost use Rattle.std.specs.Prelude.{◌≡◌, ◌<◌, ◌++◌, ℕ, IfOk, OnOk, length, map, string_bytes, vec_len};
+ghost use Rattle.std.specs.List.{flat_map, range_with_len};
+ghost use Rattle.armcaps_enc.specs.Registers.{tracked};
+ghost use Rattle.armcaps_tables.specs.Core.{core_word};
+ghost use Rattle.armcaps_sanit.specs.System.{system_words};
+ghost use Rattle.armcaps_tables.specs.Row.{Row};
+ghost use Rattle.armcaps_tables.specs.RowOf.{row_of};
+ghost use Rattle.armcaps_tables.specs.Rows.{rows_of};
+ghost use Rattle.armcaps_text.specs.Document.{reading_of};
+ghost use Rattle.armcaps_top.specs.Admission.{role_of};
+ghost use Rattle.armcaps_top.specs.Report.{core_line, register_line, short_name, note_line, note_line_at, note_lines, report_of};
 
-use crate::plain::Plain;
-use armcaps_bits::Span;
-use armcaps_rule::{Rule, fold};
+use crate::admission::{Role, roles, system};
+use armcaps_enc::SysReg;
+use armcaps_sanit::{Note, System, note};
+use armcaps_tables::{CoreRegs, FieldRow, Overrides, count, row};
+use armcaps_text::Machine;
 use std::alloc::{AllocError, Global};
 use std::fmt::Write;
 
-/// The lowest bits of the fields of ID_AA64ISAR0_EL1, each of four bits, unsigned, with the rule
-/// Lower and the safe value 0: aes, sha1, sha2, crc32, atomic, rdm, sha3, sm3, sm4, dp, fhm, ts,
-/// tlb, rndr (Arm ARM DDI 0487, ID_AA64ISAR0_EL1).
-const SHIFTS: [u32; 14] = [4, 8, 12, 16, 20, 28, 32, 36, 40, 44, 48, 52, 56, 60];
-
-/// Whether a core is among those that came up.
-fn is_up(up: &[u32], core: usize) -> bool
-    ensures { result ≡ list_any (λ other. other == core) up.now }
+/// Adds a core's line.
+fn push_core(text: &mut String, core: usize, role: Role) -> Result<(), AllocError>
+    ensures { OnOk result (string_bytes text.new ≡ string_bytes text.old ++ core_line core role) }
 {
-    up.iter().any(|other| *other as usize == core)
+    let role = role.name();
+    write!(text, "core {core} {role}\n")
 }
 
-/// How a core came up.
-fn role(up: &[u32], core: usize) -> &'static str
-    ensures { result.now ≡ role_of up.now core }
+/// Adds a system register's line.
+#[tactic(auto, unfolding(crate::specs::Report::word_text))]
+fn push_register(text: &mut String, register: SysReg, word: u64) -> Result<(), AllocError>
+    ensures { OnOk result (string_bytes text.new ≡ string_bytes text.old ++ register_line register word) }
 {
-    match up.first() {
-        Some(boot) if *boot as usize == core => "boot",
-        _ if is_up(up, core) => "early",
-        _ => "absent",
+    let name = register.name();
+    write!(text, "reg {name} 0x{word:016x}\n")
+}
+
+/// A register's name without its exception level.
+#[tactic(auto, unfolding(crate::specs::Report::short_name))]
+fn short_name(register: SysReg) -> &'static str
+    ensures { result.now ≡ short_name register }
+{
+    match register {
+        SysReg::MidrEl1 => "midr",
+        SysReg::MpidrEl1 => "mpidr",
+        SysReg::RevidrEl1 => "revidr",
+        SysReg::IdAa64Pfr0El1 => "id_aa64pfr0",
+        SysReg::IdAa64Pfr1El1 => "id_aa64pfr1",
+        SysReg::IdAa64Zfr0El1 => "id_aa64zfr0",
+        SysReg::IdAa64Smfr0El1 => "id_aa64smfr0",
+        SysReg::IdAa64Dfr0El1 => "id_aa64dfr0",
+        SysReg::IdAa64Isar0El1 => "id_aa64isar0",
+        SysReg::IdAa64Isar1El1 => "id_aa64isar1",
+        SysReg::IdAa64Isar2El1 => "id_aa64isar2",
+        SysReg::IdAa64Mmfr0El1 => "id_aa64mmfr0",
+        SysReg::IdAa64Mmfr1El1 => "id_aa64mmfr1",
+        SysReg::IdAa64Mmfr2El1 => "id_aa64mmfr2",
+        SysReg::IdAa64Mmfr3El1 => "id_aa64mmfr3",
+        SysReg::CtrEl0 => "ctr",
+        SysReg::DczidEl0 => "dczid",
     }
 }
 
-/// Adds a core's word where the core came up.
-fn push_if_up(words: &mut Vec<u64>, up: &[u32], core: usize, word: u64) -> Result<(), AllocError>
-    ensures { OnOk result (words.new.items ≡ words.old.items ++ option_to_list (if list_any (λ other. other == core) up.now then Some word else None)) }
+/// Adds a field's line, where it has an override.
+fn push_note(text: &mut String, field: &FieldRow, note: Note) -> Result<(), AllocError>
+    ensures { OnOk result (string_bytes text.new ≡ string_bytes text.old ++ note_line field.now.reg (row_of field.now) note) }
 {
-    if is_up(up, core) {
-        words.push(word)?;
+    let register = short_name(field.reg);
+    let name = field.name;
+    match note {
+        Note::None => Ok(()),
+        Note::Forced => write!(text, "note {register}.{name} forced\n"),
+        Note::Ignored => write!(text, "note {register}.{name} ignored\n"),
+        Note::Already => write!(text, "note {register}.{name} already\n"),
+    }
+}
+
+/// Adds the line of the field at an index of a register's table.
+#[tactic(auto, unfolding(crate::specs::Report::note_line_at))]
+fn push_note_at(
+    text: &mut String,
+    boot: &CoreRegs,
+    overrides: &Overrides,
+    register: SysReg,
+    index: usize,
+) -> Result<(), AllocError>
+    requires { index < length (rows_of register) }
+    ensures { OnOk result (string_bytes text.new ≡ string_bytes text.old ++ note_line_at overrides.now boot.now register index) }
+{
+    let field = row(register, index).unwrap();
+    push_note(text, &field, note(boot, overrides, register, index))
+}
+
+/// Adds the lines of a register's fields.
+fn push_notes(
+    text: &mut String,
+    boot: &CoreRegs,
+    overrides: &Overrides,
+    register: SysReg,
+) -> Result<(), AllocError>
+    ensures { OnOk result (string_bytes text.new ≡ string_bytes text.old ++ note_lines overrides.now boot.now register) }
+{
+    for index in 0..count(register) {
+        push_note_at(text, boot, overrides, register, index)?;
     }
     Ok(())
 }
 
-/// The values of the cores that came up, in rising core number.
-#[tactic(auto, using(crate::proofs::Ranges::filter_map_more))]
-fn admitted(alloc: Global, plain: &Plain) -> Result<Vec<u64>, AllocError>
-    ensures { IfOk result (λ words. words.items ≡ admitted (reading plain.now)) }
+/// Adds the lines of all fields.
+fn push_all_notes(
+    text: &mut String,
+    boot: &CoreRegs,
+    overrides: &Overrides,
+) -> Result<(), AllocError>
+    ensures { OnOk result (string_bytes text.new ≡ string_bytes text.old ++ flat_map (note_lines overrides.now boot.now) tracked) }
 {
-    let mut words = Vec::new(alloc);
-    for (core, word) in plain.values.iter().enumerate() {
-        push_if_up(&mut words, &plain.up, core, *word)?;
+    for register in SysReg::TRACKED {
+        push_notes(text, boot, overrides, register)?;
     }
-    Ok(words)
+    Ok(())
 }
 
-/// One field of each word.
-fn fields(alloc: Global, words: &[u64], shift: u32) -> Result<Vec<i64>, AllocError>
-    requires { shift < 61 }
-    ensures { IfOk result (λ fields. fields.items ≡ map (field_value false shift 4) words.now) }
+/// Adds the lines of the system registers.
+fn push_registers(text: &mut String, system: &System) -> Result<(), AllocError>
+    ensures { OnOk result (string_bytes text.new ≡ string_bytes text.old ++ flat_map (λ register. register_line register (core_word system.now register)) tracked) }
 {
-    let span = Span {
-        shift,
-        width: 4,
-        signed: false,
-    };
-    words.iter().map(|word| span.value(*word)).collect(alloc)
-}
-
-/// The fold of fields with the rule Lower and the safe value 0.
-#[tactic(auto, unfolding(armcaps_rule::specs::Rule::fold_of))]
-fn least(fields: &[i64]) -> i64
-    ensures { result ≡ fold_of Lower (pos 0) fields.now }
-{
-    if fields.is_empty() {
-        0
-    } else {
-        fold(Rule::Lower, 0, fields)
+    for register in SysReg::TRACKED {
+        push_register(text, register, system.word(register))?;
     }
+    Ok(())
 }
 
-/// The word with the fold of the words' fields from this bit on, and its other bits as they were.
-#[tactic(auto, using(crate::proofs::Fields::system_field_fits))]
-fn with_field(alloc: Global, word: u64, words: &[u64], shift: u32) -> Result<u64, AllocError>
-    requires bounds { shift < 61 }
-    requires free { word < 2 ^ shift }
-    ensures sum { IfOk result (λ new. new ≡ word + field_bits 4 (system_field words.now shift) * 2 ^ shift) }
-    ensures below { IfOk result (λ new. new < 2 ^ (shift + 4)) }
+/// Adds the lines of the cores.
+fn push_cores(text: &mut String, roles: &[Role]) -> Result<(), AllocError>
+    ensures { OnOk result ((role : ℕ → Role) → roles.now ≡ map role (range_with_len 0 (length roles.now)) →
+        string_bytes text.new ≡ string_bytes text.old ++ flat_map (λ core. core_line core (role core)) (range_with_len 0 (length roles.now))) }
 {
-    let fields = fields(alloc, words, shift)?;
-    let span = Span {
-        shift,
-        width: 4,
-        signed: false,
-    };
-    Ok(span.put(word, least(&fields)))
-}
-
-/// The system register over the words of the cores that came up.
-fn system_word(alloc: Global, words: &[u64]) -> Result<u64, AllocError>
-    ensures { IfOk result (λ word. word ≡ system_word words.now) }
-{
-    let mut word = 0;
-    for shift in SHIFTS {
-        word = with_field(alloc, word, words, shift)?;
+    for (core, role) in roles.iter().enumerate() {
+        push_core(text, core, *role)?;
     }
-    Ok(word)
+    Ok(())
 }
 
-/// Adds a core's line to the report.
-fn push_core_line(text: &mut String, up: &[u32], core: usize) -> Result<(), AllocError>
-    ensures { OnOk result (string_bytes text.new ≡ string_bytes text.old ++ core_line up.now core) }
+/// The report of a machine under overrides.
+#[tactic(auto, unfolding(crate::specs::Report::report_of, armcaps_sanit::specs::System::system_words), using(crate::proofs::Agreeing::core_word_map))]
+pub fn report(alloc: Global, machine: &Machine, overrides: &Overrides) -> Result<String, AllocError>
+    requires { machine.now.boot < vec_len machine.now.cores }
+    ensures { IfOk result (λ text. string_bytes text ≡ report_of overrides.now (reading_of machine.now)) }
 {
-    let role = role(up, core);
-    write!(text, "core {core} {role}\n")
-}
-
-/// Adds the line of the system register to the report.
-#[tactic(auto, unfolding(crate::specs::Report::register_line, crate::specs::Report::word_text))]
-fn push_register_line(text: &mut String, word: u64) -> Result<(), AllocError>
-    ensures { OnOk result (string_bytes text.new ≡ string_bytes text.old ++ register_line word) }
-{
-    write!(text, "reg id_aa64isar0_el1 0x{word:016x}\n")
-}
-
-/// The report of a machine.
-#[tactic(auto, using(crate::proofs::Ranges::flat_map_more), unfolding(crate::specs::Report::report_of))]
-pub fn report(alloc: Global, plain: &Plain) -> Result<String, AllocError>
-    ensures { IfOk result (λ text. string_bytes text ≡ report_of (reading plain.now)) }
-{
-    let words = admitted(alloc, plain)?;
-    let word = system_word(alloc, &words)?;
+    let roles = roles(alloc, machine)?;
+    let system = system(machine, overrides, &roles);
     let mut text = String::new(alloc);
     text.push_str("armcaps report 1\n")?;
-    for core in 0..plain.values.len() {
-        push_core_line(&mut text, &plain.up, core)?;
-    }
-    push_register_line(&mut text, word)?;
+    push_cores(&mut text, &roles)?;
+    push_registers(&mut text, &system)?;
+    let boot = &machine.cores[machine.boot as usize];
+    push_all_notes(&mut text, boot, overrides)?;
     text.push_str("end\n")?;
     Ok(text)
 }

@@ -1,16 +1,15 @@
 use crate::run;
 use armcaps_io::{MemSink, MemSource, SureSource};
 use std::alloc::Global;
+use std::fmt::Write;
 use std::test::Fail;
 
 const ONE_CORE: &str = "armcaps 1\ncore 0\nid_aa64isar0_el1 0x11120\nboot 0\nfinalise\nend\n";
 
 const ONE_CORE_REPORT: &str =
-    "armcaps report 1\ncore 0 boot\nreg id_aa64isar0_el1 0x0000000000011120\nend\n";
+    "armcaps report 1\ncore 0 boot\nreg id_aa64pfr0_el1 0x0000000000000000\nreg id_aa64pfr1_el1 0x0000000000000000\nreg id_aa64zfr0_el1 0x0000000000000000\nreg id_aa64smfr0_el1 0x0000000000000000\nreg id_aa64dfr0_el1 0x0000000000000000\nreg id_aa64isar0_el1 0x0000000000011120\nreg id_aa64isar1_el1 0x0000000000000000\nreg id_aa64isar2_el1 0x0000000000000000\nreg id_aa64mmfr0_el1 0x0000000000000000\nreg id_aa64mmfr1_el1 0x0000000000000000\nreg id_aa64mmfr2_el1 0x0000000000000000\nreg id_aa64mmfr3_el1 0x0000000000000000\nreg ctr_el0 0x0000000000000000\nreg dczid_el0 0x0000000000000000\nend\n";
 
 const USAGE: &str = "armcaps: usage: armcaps report\n";
-
-const REFUSED: &str = "armcaps: input refused\n";
 
 /// What a run answers and writes.
 #[derive(Drop)]
@@ -31,7 +30,7 @@ fn words(alloc: Global, line: &str) -> Result<Vec<String>, Fail> {
 fn run_on(alloc: Global, line: &str, input: &[u8]) -> Result<Ran, Fail> {
     let words = words(alloc, line)?;
     let mut input = SureSource::new(input.to_vec(alloc)?, 7);
-    let mut out = MemSink::new(alloc, 4096, 4096, Vec::new(alloc))?;
+    let mut out = MemSink::new(alloc, 8192, 8192, Vec::new(alloc))?;
     let mut err = MemSink::new(alloc, 4096, 4096, Vec::new(alloc))?;
     let status = run(alloc, &words, &mut input, &mut out, &mut err);
     Ok(Ran {
@@ -44,32 +43,77 @@ fn run_on(alloc: Global, line: &str, input: &[u8]) -> Result<Ran, Fail> {
 /// Words and inputs, with the status and what `out` and `err` get.
 #[test]
 fn answers(rt: HostRuntime) -> Result<(), Fail> {
-    let two =
-        "armcaps 1\ncore 0\nid_aa64isar0_el1 0x0000100010211120\ncore 1\nid_aa64isar0_el1 0x11120\nboot 0\nonline 1\nfinalise\nend\n";
-    let turned =
-        "armcaps 1\ncore 0\nid_aa64isar0_el1 0x11120\ncore 1\nid_aa64isar0_el1 0x100010211120\nboot 0\nonline 1\nfinalise\nend\n";
-    let both =
-        "armcaps report 1\ncore 0 boot\ncore 1 early\nreg id_aa64isar0_el1 0x0000000000011120\nend\n";
-    let alone =
-        "armcaps 1\ncore 0\nid_aa64isar0_el1 0x100010211120\ncore 1\nboot 0\nfinalise\nend\n";
-    let absent =
-        "armcaps report 1\ncore 0 boot\ncore 1 absent\nreg id_aa64isar0_el1 0x0000100010211120\nend\n";
     let cases = [
         ("report", ONE_CORE, 0, ONE_CORE_REPORT, ""),
         ("", ONE_CORE, 2, "", USAGE),
         ("report report", ONE_CORE, 2, "", USAGE),
         ("reports", ONE_CORE, 2, "", USAGE),
-        ("report", "", 3, "", REFUSED),
-        ("report", two, 0, both, ""),
-        ("report", turned, 0, both, ""),
-        ("report", alone, 0, absent, ""),
-        ("report", "armcaps 1\r\n", 3, "", REFUSED),
+        ("report", "", 3, "", "armcaps: line 1: kind 2 unfinished\n"),
+        (
+            "report",
+            "armcaps 1\r\n",
+            3,
+            "",
+            "armcaps: line 1: kind 1 header\n",
+        ),
+        (
+            "report",
+            "armcaps 1\ncore 0\nboot 0\nfinalise\nend\nx",
+            3,
+            "",
+            "armcaps: trailing bytes: 1\n",
+        ),
+        (
+            "report",
+            "armcaps 1\ncore 0\nboot 0\nonline 0\nfinalise\nend\n",
+            3,
+            "",
+            "armcaps: line 4: kind 12 boot-step\n",
+        ),
     ];
     for (line, input, status, out, err) in cases {
         let ran = run_on(rt.alloc(), line, input.as_bytes())?;
         assert_eq!(rt; ran.status, status, "{line}: {input}");
         assert_eq!(rt; ran.out.as_slice(), out.as_bytes(), "{line}: {input}");
         assert_eq!(rt; ran.err.as_slice(), err.as_bytes(), "{line}: {input}");
+    }
+    Ok(())
+}
+
+/// The word that the system keeps of a register over the boot core's word and early cores' words.
+#[test]
+fn system_words(rt: HostRuntime) -> Result<(), Fail> {
+    let alloc = rt.alloc();
+    let cases: [(&str, &[u64], u64); 9] = [
+        ("id_aa64isar0_el1", &[0x0000100010211120, 0x11120], 0x11120),
+        ("id_aa64isar0_el1", &[0x11120, 0x0000100010211120], 0x11120),
+        ("id_aa64pfr0_el1", &[0, 0xf0000], 0xf0000),
+        ("ctr_el0", &[0x84448004, 0x80448004], 0x80448004),
+        ("ctr_el0", &[0x84448004, 0x85448004], 0x85448004),
+        ("ctr_el0", &[0x8444c004, 0x8444c004], 0x8444c004),
+        ("ctr_el0", &[0x8444c004, 0x84444004, 0x8444c004], 0x84448004),
+        ("midr_el1", &[0x410fd034], 0),
+        ("id_aa64mmfr1_el1", &[0x1000000, 0], 0x1000000),
+    ];
+    for (register, values, word) in cases {
+        let mut input = String::from_str(alloc, "armcaps 1\n")?;
+        for (core, value) in values.iter().enumerate() {
+            writeln!(input, "core {core}\n{register} {value}")?;
+        }
+        writeln!(input, "boot 0")?;
+        for core in 1..values.len() {
+            writeln!(input, "online {core}")?;
+        }
+        writeln!(input, "finalise\nend")?;
+        let ran = run_on(alloc, "report", input.as_bytes())?;
+        assert_eq!(rt; ran.status, 0, "{register}: {values:?}");
+        let line = format!(in alloc; "reg {register} 0x{word:016x}\n")?;
+        let found = ran
+            .out
+            .as_slice()
+            .windows(line.len())
+            .any(|part| part == line.as_bytes());
+        assert_eq!(rt; found, word != 0, "{register}: {values:?}");
     }
     Ok(())
 }

@@ -1,0 +1,89 @@
+//! Which cores a machine admits, and the system that they make.
+
+ghost use Rattle.std.specs.Prelude.{◌≡◌, ◌≢◌, ◌<◌, ◌++◌, ◌∷◌, List, Option, ℤ, ℕ, length, map, vec_len, IfOk, if◌then◌else◌, slice_index_or};
+ghost use Rattle.std.specs.List.{range_with_len};
+ghost use Rattle.armcaps_sanit.specs.System.{system_words};
+ghost use Rattle.armcaps_tables.specs.Core.{Core};
+ghost use Rattle.armcaps_tables.specs.Overriding.{AllFit};
+ghost use Rattle.armcaps_text.specs.Document.{reading_of};
+ghost use Rattle.armcaps_top.specs.Admission.{admitted_cores, brings_up, role_of};
+
+use armcaps_sanit::System;
+use armcaps_tables::{CoreRegs, Overrides};
+use armcaps_text::{Machine, StepLine};
+use std::alloc::{AllocError, Global};
+
+/// How a core of a machine comes up.
+#[derive(Clone, Copy)]
+pub enum Role {
+    /// It is the boot core.
+    Boot,
+    /// It is brought up before the system is settled.
+    Early,
+    /// It is never brought up.
+    Absent,
+}
+
+impl Role {
+    ghost use Rattle.armcaps_top.specs.Report.{role_name};
+
+    /// The word of the report.
+    pub fn name(self) -> &'static str
+        ensures { result.now ≡ role_name self }
+    {
+        match self {
+            Role::Boot => "boot",
+            Role::Early => "early",
+            Role::Absent => "absent",
+        }
+    }
+}
+
+// Notes in the roles what a step does.
+fn note_step(roles: &mut [Role], step: StepLine)
+    ensures len { length roles.new ≡ length roles.old }
+    ensures roles { (core : ℕ) → core < length roles.old → slice_index_or roles.new core Role.Absent ≡ (if brings_up core step then Role.Early else slice_index_or roles.old core Role.Absent) }
+{
+    if let StepLine::Online(core) = step
+        && (core as usize) < roles.len()
+    {
+        roles[core as usize] = Role::Early;
+    }
+}
+
+/// The role of each core, by its number.
+pub fn roles(alloc: Global, machine: &Machine) -> Result<Vec<Role>, AllocError>
+    requires { machine.now.boot < vec_len machine.now.cores }
+    ensures { IfOk result (λ roles. roles.items ≡ map (role_of (reading_of machine.now)) (range_with_len 0 (vec_len machine.now.cores))) }
+{
+    let mut roles = vec![in alloc; Role::Absent; machine.cores.len()]?;
+    for step in &machine.steps {
+        note_step(&mut roles, *step);
+    }
+    roles[machine.boot as usize] = Role::Boot;
+    Ok(roles)
+}
+
+// Takes an early core into the system.
+fn admit_early(system: &mut System, role: Role, core: &CoreRegs)
+    ensures early { role ≡ Role.Early → (overrides : List (Option ℤ)) (before after : List Core) → AllFit overrides → 0 < length (before ++ after) →
+        system.old ≡ system_words overrides (before ++ after) → system.new ≡ system_words overrides (before ++ core.now ∷ after) }
+    ensures other { role ≢ Role.Early → system.new ≡ system.old }
+{
+    if let Role::Early = role {
+        system.admit(core);
+    }
+}
+
+/// The system of the admitted cores: of the boot core, and then of each early core.
+pub fn system(machine: &Machine, overrides: &Overrides, roles: &[Role]) -> System
+    requires boot { machine.now.boot < vec_len machine.now.cores }
+    requires roles { roles.now ≡ map (role_of (reading_of machine.now)) (range_with_len 0 (vec_len machine.now.cores)) }
+    ensures { result ≡ system_words overrides.now (admitted_cores (reading_of machine.now)) }
+{
+    let mut system = System::new(&machine.cores[machine.boot as usize], overrides);
+    for (core, registers) in machine.cores.iter().enumerate() {
+        admit_early(&mut system, roles[core], registers);
+    }
+    system
+}
