@@ -11,3 +11,4 @@ mod value;
 mod word;
 
 pub use command_line::parse;
+pub use value::value_of;

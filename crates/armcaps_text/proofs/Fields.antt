@@ -7,12 +7,13 @@ use Rattle.armcaps_enc.specs.declared.register.SysReg.{SysReg}
 use Rattle.armcaps_enc.specs.Registers.{place_of, registers}
 use Rattle.armcaps_text.specs.Earlier.{is_core, is_finalise, core_count, register_of, step_of, names_place, lines_by_core, registers_named, steps_of, register_word, core_words, cores_of}
 use Rattle.armcaps_text.specs.Reader.{is_finalise_step, with_word}
+use Rattle.armcaps_text.proofs.Forms.{with_word_of}
 use Rattle.armcaps_text.proofs.Groups.{onto_last, last_group, groups_push_yes, groups_push_no, length_groups, last_group-push, last_group-onto_last}
 use Rattle.armcaps_text.proofs.Pushes.{find_none, find-push_no, find-push_yes, filter_map-push_no, filter_map-push, map-same, map_onto_last-same, map_onto_last-set, map-last, map_range-set}
 use Rattle.armcaps_text.specs.declared.machine.StepLine.{StepLine}
 use Rattle.armcaps_text.specs.declared.parsed.ParsedLine.{ParsedLine}
 use Rattle.armcaps_text.specs.declared.word.Word.{Word}
-use Rattle.armcaps_text.specs.declared.word.Word.TheVariants.{Skipped, NotYet, Unknown, Header, Core, Register, Boot, Online, Finalise, End}
+use Rattle.armcaps_text.specs.declared.word.Word.TheVariants.{Skipped, NotYet, Unknown, Header, Core, Register, Boot, CommandLine, Online, Finalise, End}
 
 -- a line that gives no register a word leaves a core's words
 words_quiet : (line : ParsedLine) → ((place : ℕ) → names_place place line ≡ false) → (lines : List ParsedLine) → core_words (lines ++ line ∷ []) ≡ core_words lines
@@ -74,10 +75,6 @@ named_more lines line register h one some =
     ∙ filter_map-push register_of (last_group (lines_by_core lines)) line
     ∙ ap (λ (named : Option SysReg). registers_named lines ++ option_to_list named) one
 
--- a line with another word
-abbrev with_word_of : Word → ParsedLine → ParsedLine
-with_word_of word line = record { word = word; tokens = line.tokens; value = line.value; core = line.core }
-
 -- a register is named where a line names its place
 named_step : (word : Word) (line : ParsedLine) (place : ℕ) (named : List SysReg) (more : Bool) → list_any (λ other. place_of other == place) named ≡ more → list_any (λ other. place_of other == place) (cons_option (register_of (with_word_of word line)) named) ≡ (names_place place (with_word_of word line) || more)
 named_step Skipped line place named more h = h
@@ -87,6 +84,7 @@ named_step Header line place named more h = h
 named_step Core line place named more h = h
 named_step (Register register) line place named more h = ap (λ (b : Bool). (place_of register == place) || b) h
 named_step Boot line place named more h = h
+named_step CommandLine line place named more h = h
 named_step Online line place named more h = h
 named_step Finalise line place named more h = h
 named_step End line place named more h = h
@@ -104,6 +102,7 @@ final_step Header line core steps more c h = h
 final_step Core line core steps more c h = h
 final_step (Register register) line core steps more c h = h
 final_step Boot line core steps more c h = h
+final_step CommandLine line core steps more c h = h
 final_step Online line None steps more c h = rw c h
 final_step Online line (Some core) steps more c h = rw c h
 final_step Finalise line core steps more c h = refl

@@ -1,6 +1,6 @@
 pub mod LineLemmas
 pub mod TokenLemmas
-pub mod NumberLemmas
+pub mod Forms
 pub mod Groups
 pub mod Pushes
 pub mod Fields

@@ -19,7 +19,7 @@ all_but_last-cons line pieces h =
 pub position_some : (p : ℕ → Bool) (xs : List ℕ) (end : ℕ) → position p xs ≡ Some end → (position_or_len p xs < length xs) × (end ≡ position_or_len p xs)
 position_some p xs end h = grind (arith, nat_tests)
 
-position_none : (p : ℕ → Bool) (xs : List ℕ) → position p xs ≡ None → length xs ≤ position_or_len p xs
+pub position_none : (p : ℕ → Bool) (xs : List ℕ) → position p xs ≡ None → length xs ≤ position_or_len p xs
 position_none p xs h = grind (arith, nat_tests)
 
 -- a text whose first line feed stands at a place has the bytes before it as its first line

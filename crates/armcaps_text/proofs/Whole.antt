@@ -13,13 +13,14 @@ use Rattle.armcaps_text.specs.Kinds.{core_named, is_step_of, is_in_lower_section
 use Rattle.armcaps_text.specs.declared.machine.StepLine.TheVariants as step
 use Rattle.armcaps_text.specs.declared.parsed.ParsedLine.{ParsedLine}
 use Rattle.armcaps_text.specs.declared.word.Word.{Word}
-use Rattle.armcaps_text.specs.declared.word.Word.TheVariants.{Skipped, NotYet, Unknown, Header, Core, Register, Boot, Online, Finalise, End}
+use Rattle.armcaps_text.specs.declared.word.Word.TheVariants.{Skipped, NotYet, Unknown, Header, Core, Register, Boot, CommandLine, Online, Finalise, End}
 use Rattle.std.proofs.lemmas.List.{map-append}
 use Rattle.armcaps_text.specs.Words.{parsed_line}
 use Rattle.armcaps_text.specs.Earlier.{cores_of}
 use Rattle.armcaps_text.specs.Kinds.{is_second_header, is_misplaced, kind_after}
 use Rattle.armcaps_text.specs.Document.{Reading, Reads, is_last, bytes_of, reading_of_lines, unended_kind, outcome}
 use Rattle.armcaps_text.specs.declared.kind.TextKind.{TextKind}
+use Rattle.armcaps_text.proofs.Forms.{with_word_of}
 use Rattle.armcaps_text.proofs.Fields.{cores_counted}
 use Rattle.armcaps_text.proofs.LineLemmas.{all_but_last-cons}
 use Rattle.armcaps_text.proofs.Walk.{outcome_after, outcome_walked, after_refused, after_last, after_next}
@@ -76,7 +77,7 @@ no_step_yet : (lines : List ParsedLine) → list_any (λ before. nat_lt 2 (secti
 no_step_yet [] h = refl
 no_step_yet (line ∷ lines) h = by_word line.word line.core (no_step_yet lines) h
   where
-    by_word : (word : Word) (core : Option ℕ) → (list_any (λ before. nat_lt 2 (section_of before.word)) lines ≡ false → steps_of lines ≡ []) → (nat_lt 2 (section_of word) || list_any (λ before. nat_lt 2 (section_of before.word)) lines) ≡ false → steps_of (record { word = word; tokens = line.tokens; value = line.value; core = core } ∷ lines) ≡ []
+    by_word : (word : Word) (core : Option ℕ) → (list_any (λ before. nat_lt 2 (section_of before.word)) lines ≡ false → steps_of lines ≡ []) → (nat_lt 2 (section_of word) || list_any (λ before. nat_lt 2 (section_of before.word)) lines) ≡ false → steps_of (record (with_word_of word line) { core = core } ∷ lines) ≡ []
     by_word Skipped core ih h = ih h
     by_word NotYet core ih h = ih h
     by_word Unknown core ih h = ih h
@@ -84,6 +85,7 @@ no_step_yet (line ∷ lines) h = by_word line.word line.core (no_step_yet lines)
     by_word Core core ih h = ih h
     by_word (Register register) core ih h = ih h
     by_word Boot core ih h = ih h
+    by_word CommandLine core ih h = absurd cc
     by_word Online core ih h = absurd cc
     by_word Finalise core ih h = absurd cc
     by_word End core ih h = absurd cc
@@ -142,36 +144,37 @@ online_step lines (Some core) within apart k e =
 
 -- a line without a kind
 sound_push : (lines : List ParsedLine) (line : ParsedLine) → Sound lines → lowest_kind lines line ≡ None → Sound (lines ++ line ∷ [])
-sound_push lines line h none = by_word line.word line.tokens line.value line.core none
+sound_push lines line h none = by_word line.word none
   where
-    by_word : (word : Word) (tokens : ℕ) (value core : Option ℕ) → lowest_kind lines (record { word = word; tokens = tokens; value = value; core = core }) ≡ None → Sound (lines ++ record { word = word; tokens = tokens; value = value; core = core } ∷ [])
-    by_word Skipped tokens value core none = quiet_sound lines _ h refl refl refl
-    by_word NotYet tokens value core none = quiet_sound lines _ h refl refl refl
-    by_word Unknown tokens value core none = quiet_sound lines _ h refl refl refl
-    by_word Header tokens value core none = quiet_sound lines _ h refl refl refl
-    by_word Core tokens value core none =
-        let line : ParsedLine = record { word = Core; tokens = tokens; value = value; core = core } in
-        let clear = no_kind lines line refl none in
-        core_sound lines line h refl refl refl clear.too_many
-    by_word (Register register) tokens value core none = quiet_sound lines _ h refl refl refl
-    by_word Boot tokens value core none =
-        let line : ParsedLine = record { word = Boot; tokens = tokens; value = value; core = core } in
-        let clear = no_kind lines line refl none in
-        boot_sound lines line h refl refl refl (or_left _ _ (well_placed lines line clear.order)) (not_false _ clear.number) (not_false _ clear.core_number) (no_step_yet lines (not_lower lines line clear))
-    by_word Online tokens value core none =
-        let line : ParsedLine = record { word = Online; tokens = tokens; value = value; core = core } in
-        let clear = no_kind lines line refl none in
-        step_sound lines line h refl refl (online_step lines core clear.core_number clear.boot_step)
-    by_word Finalise tokens value core none = step_sound lines _ h refl refl (λ k e. absurd cc)
-    by_word End tokens value core none = quiet_sound lines _ h refl refl refl
+    by_word : (word : Word) → lowest_kind lines (with_word_of word line) ≡ None → Sound (lines ++ with_word_of word line ∷ [])
+    by_word Skipped none = quiet_sound lines _ h refl refl refl
+    by_word NotYet none = quiet_sound lines _ h refl refl refl
+    by_word Unknown none = quiet_sound lines _ h refl refl refl
+    by_word Header none = quiet_sound lines _ h refl refl refl
+    by_word Core none =
+        let here : ParsedLine = with_word_of Core line in
+        let clear = no_kind lines here refl none in
+        core_sound lines here h refl refl refl clear.too_many
+    by_word (Register register) none = quiet_sound lines _ h refl refl refl
+    by_word Boot none =
+        let here : ParsedLine = with_word_of Boot line in
+        let clear = no_kind lines here refl none in
+        boot_sound lines here h refl refl refl (or_left _ _ (well_placed lines here clear.order)) (not_false _ clear.number) (not_false _ clear.core_number) (no_step_yet lines (not_lower lines here clear))
+    by_word CommandLine none = quiet_sound lines _ h refl refl refl
+    by_word Online none =
+        let here : ParsedLine = with_word_of Online line in
+        let clear = no_kind lines here refl none in
+        step_sound lines here h refl refl (online_step lines line.core clear.core_number clear.boot_step)
+    by_word Finalise none = step_sound lines _ h refl refl (λ k e. absurd cc)
+    by_word End none = quiet_sound lines _ h refl refl refl
 
 -- the header
 header_sound : (line : ParsedLine) → line.word ≡ Header → Sound (line ∷ [])
-header_sound line header = by_word line.word line.tokens line.value line.core header
+header_sound line header = by_word line.word header
   where
-    by_word : (word : Word) (tokens : ℕ) (value core : Option ℕ) → word ≡ Header → Sound (record { word = word; tokens = tokens; value = value; core = core } ∷ [])
-    by_word Header tokens value core e = quiet_sound [] _ nothing_sound refl refl refl
-    by_word _ tokens value core e = absurd cc
+    by_word : (word : Word) → word ≡ Header → Sound (with_word_of word line ∷ [])
+    by_word Header e = quiet_sound [] _ nothing_sound refl refl refl
+    by_word _ e = absurd cc
 
 -- lines without a kind
 next_sound : (earlier : List (List ℕ)) (line : List ℕ) → Sound (map parsed_line earlier) → kind_after earlier line ≡ None → Sound (map parsed_line (earlier ++ line ∷ []))

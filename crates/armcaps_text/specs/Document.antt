@@ -1,11 +1,15 @@
 -- What a machine text is, what it says, and where and why another is refused.
-use Rattle.std.specs.Prelude.{◌≡◌, ℕ, ◌+◌, Bool, true, false, nat_lt, if◌then◌else◌, List, [], ◌∷◌, ◌++◌, length, map, sum_by, filter_map, Option, Some, None, option_map, unwrap_or}
+use Rattle.std.specs.Prelude.{◌≡◌, ℕ, ◌+◌, ◌<◌, Bool, true, false, nat_lt, if◌then◌else◌, List, [], ◌∷◌, ◌++◌, length, map, sum_by, filter_map, find, Option, Some, None, option_map, unwrap_or}
 use Rattle.std.specs.List.{list_any, slice_get}
+use Rattle.armcaps_enc.specs.declared.register.SysReg.{SysReg}
+use Rattle.armcaps_tables.specs.Rows.{rows_of}
+use Rattle.armcaps_tables.specs.Overriding.{override_of}
+use Rattle.armcaps_cmdline.specs.Overrides.{command_line_override}
 use Rattle.armcaps_text.specs.Lines.{lines_of}
+use Rattle.armcaps_text.specs.Tokens.{text_after_word}
 use Rattle.armcaps_text.specs.Words.{parsed_line}
-use Rattle.armcaps_text.specs.Earlier.{cores_of, boot_of, steps_of}
+use Rattle.armcaps_text.specs.Earlier.{is_command_line, cores_of, boot_of, steps_of}
 use Rattle.armcaps_text.specs.Kinds.{kind_after}
-use Rattle.armcaps_text.specs.declared.lines.TheConstants.{TEXT_LIMIT}
 use Rattle.armcaps_text.specs.declared.kind.TextKind.{TextKind}
 use Rattle.armcaps_text.specs.declared.kind.TextKind.TheVariants as kind
 use Rattle.armcaps_text.specs.declared.kind.TextRefused.{TextRefused}
@@ -14,10 +18,11 @@ use Rattle.armcaps_text.specs.declared.machine.Machine.{Machine}
 use Rattle.armcaps_text.specs.declared.machine.StepLine.{StepLine}
 use Rattle.armcaps_text.specs.declared.word.Word.TheVariants.{End}
 
--- what a text says: the 17 words of each core, the boot core and the steps
+-- what a text says: the 17 words of each core, the boot core, the command line and the steps
 pub record Reading : Type 0 where
   pub cores : List (List ℕ)
   pub boot : ℕ
+  pub cmdline : List ℕ
   pub steps : List StepLine
 
 -- what becomes of an input: it reads, with the number of bytes up to the end of its last line; or a line of it is refused
@@ -49,13 +54,17 @@ refusals lines = filter_map refusal_at (with_earlier [] lines)
 
 -- 2 and 3: the kind of a line that does not end among the first 1,048,576 bytes
 abbrev pub unended_kind : List ℕ → TextKind
-unended_kind input = if nat_lt TEXT_LIMIT (length input) then kind.TextTooLong else kind.Unfinished
+unended_kind input = if nat_lt 1_048_576 (length input) then kind.TextTooLong else kind.Unfinished
+
+-- the command line that lines give: what stands on the `cmdline` line after its word; empty where there is none
+abbrev pub command_line_of : List (List ℕ) → Option (List ℕ)
+command_line_of lines = option_map text_after_word (find (λ line. is_command_line (parsed_line line)) lines)
 
 -- what lines say
 abbrev pub reading_of_lines : List (List ℕ) → Reading
 reading_of_lines lines =
     let parsed = map parsed_line lines in
-    record { cores = cores_of parsed; boot = unwrap_or (boot_of parsed) 0; steps = steps_of parsed }
+    record { cores = cores_of parsed; boot = unwrap_or (boot_of parsed) 0; cmdline = unwrap_or (command_line_of lines) []; steps = steps_of parsed }
 
 -- how many bytes the lines take, each with its line feed
 abbrev pub bytes_of : List (List ℕ) → ℕ
@@ -73,9 +82,16 @@ outcome input =
           else Refuses (length lines + 1) (unended_kind input)
     ]
 
--- what a machine is, as a text says it
-abbrev pub reading_of : Machine → Reading
-reading_of machine = record { cores = machine.cores.items; boot = machine.boot; steps = machine.steps.items }
+-- what a machine is, as a text with this command line says it
+abbrev pub reading_of : Machine → List ℕ → Reading
+reading_of machine cmdline = record { cores = machine.cores.items; boot = machine.boot; cmdline = cmdline; steps = machine.steps.items }
+
+-- the input reads, up to this place, and the machine is what it says; its overrides are those of the command line
+pub record IsReadAs (input : List ℕ) (machine : Machine) (place : ℕ) : Type 0 where
+  pub cmdline : List ℕ
+  pub reads : outcome input ≡ Reads (reading_of machine cmdline) place
+  pub overrides : (register : SysReg) (index : ℕ) → index < length (rows_of register)
+      → override_of machine.overrides register index ≡ command_line_override cmdline register index
 
 -- the refusal is that of the input, unless memory ran out
 abbrev pub IsRefusalOf : List ℕ → TextRefused → Type 0

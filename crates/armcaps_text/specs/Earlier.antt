@@ -4,7 +4,7 @@ use Rattle.std.specs.List.{slice_split, last_or}
 use Rattle.armcaps_enc.specs.declared.register.SysReg.{SysReg}
 use Rattle.armcaps_enc.specs.Registers.{place_of, registers}
 use Rattle.armcaps_text.specs.declared.parsed.ParsedLine.{ParsedLine}
-use Rattle.armcaps_text.specs.declared.word.Word.TheVariants.{Core, Register, Boot, Online, Finalise}
+use Rattle.armcaps_text.specs.declared.word.Word.TheVariants.{Core, Register, Boot, CommandLine, Online, Finalise}
 use Rattle.armcaps_text.specs.declared.machine.StepLine.{StepLine}
 use Rattle.armcaps_text.specs.declared.machine.StepLine.TheVariants as step
 
@@ -15,6 +15,10 @@ is_core line = elim line.word [ Core ↦ true | _ ↦ false ]
 -- the line names the boot core
 abbrev pub is_boot : ParsedLine → Bool
 is_boot line = elim line.word [ Boot ↦ true | _ ↦ false ]
+
+-- the line gives the command line
+abbrev pub is_command_line : ParsedLine → Bool
+is_command_line line = elim line.word [ CommandLine ↦ true | _ ↦ false ]
 
 -- the line finalises the system
 abbrev pub is_finalise : ParsedLine → Bool

@@ -1,19 +1,18 @@
 -- What can be wrong with a line, by the lines before it. Each kind is asked only where no lower kind holds. Kind 1 is
--- that of line 1, in `kind_after`; 2 and 3 are those of a line that has not ended, in Document; 8, 16 and 17 are those
--- of lines that are not read yet.
+-- that of line 1, in `kind_after`; 2 and 3 are those of a line that has not ended, in Document; 8 and 17 are those of
+-- lines that are not read yet.
 use Rattle.std.specs.Prelude.{ℕ, ◌==◌, ◌&&◌, ◌||◌, not, Bool, true, false, nat_lt, nat_le, if◌then◌else◌, List, [], ◌∷◌, map, find, Option, Some, None, option_map, is_none, unwrap_or}
 use Rattle.std.specs.List.{list_any}
 use Rattle.std.specs.Option.{option_map_or}
 use Rattle.armcaps_enc.specs.Registers.{place_of}
 use Rattle.armcaps_text.specs.Words.{section_of, token_count, parsed_line, is_header}
-use Rattle.armcaps_text.specs.Earlier.{is_core, is_boot, is_finalise, core_count, registers_named, boot_of, steps_of}
-use Rattle.armcaps_text.specs.declared.machine.TheConstants.{CORE_LIMIT}
+use Rattle.armcaps_text.specs.Earlier.{is_core, is_boot, is_command_line, is_finalise, core_count, registers_named, boot_of, steps_of}
 use Rattle.armcaps_text.specs.declared.kind.TextKind.{TextKind}
 use Rattle.armcaps_text.specs.declared.kind.TextKind.TheVariants as kind
 use Rattle.armcaps_text.specs.declared.machine.StepLine.{StepLine}
 use Rattle.armcaps_text.specs.declared.machine.StepLine.TheVariants as step
 use Rattle.armcaps_text.specs.declared.parsed.ParsedLine.{ParsedLine}
-use Rattle.armcaps_text.specs.declared.word.Word.TheVariants.{Skipped, NotYet, Unknown, Header, Core, Register, Boot, Online, Finalise}
+use Rattle.armcaps_text.specs.declared.word.Word.TheVariants.{Skipped, NotYet, Unknown, Header, Core, Register, Boot, CommandLine, Online, Finalise}
 
 -- the number of the core that the line names
 abbrev pub core_named : ParsedLine → ℕ
@@ -39,24 +38,25 @@ is_second_header line = elim line.word [ Header ↦ true | _ ↦ false ]
 abbrev pub is_in_lower_section : List ParsedLine → ParsedLine → Bool
 is_in_lower_section earlier line = list_any (λ before. nat_lt (section_of line.word) (section_of before.word)) earlier
 
--- a second `boot` line, or one without a `core` line; a register line without a `core` line
+-- a second `boot` line, or one without a `core` line; a second `cmdline` line; a register line without a `core` line
 abbrev pub is_misplaced : List ParsedLine → ParsedLine → Bool
 is_misplaced earlier line = elim line.word [
   | Boot ↦ list_any is_boot earlier || not (list_any is_core earlier)
+  | CommandLine ↦ list_any is_command_line earlier
   | Register reg ↦ not (list_any is_core earlier)
   | _ ↦ false
 ]
 
 -- 5: a second header; a section lower than that of an earlier line; a second `boot` line, or one without a `core` line;
--- a register line without a `core` line; a section above 2 without a `boot` line
+-- a second `cmdline` line; a register line without a `core` line; a section above 2 without a `boot` line
 abbrev pub is_out_of_order : List ParsedLine → ParsedLine → Bool
 is_out_of_order earlier line =
     is_second_header line || is_in_lower_section earlier line || is_misplaced earlier line
     || (nat_lt 2 (section_of line.word) && not (list_any is_boot earlier))
 
--- 6: the number of tokens is not the form's
+-- 6: the number of tokens is not the form's; a `cmdline` line may have any number
 abbrev pub has_wrong_token_count : ParsedLine → Bool
-has_wrong_token_count line = not (line.tokens == token_count line.word)
+has_wrong_token_count line = option_map_or (λ count. not (line.tokens == count)) (token_count line.word) false
 
 -- 7: the number of a core or the word of a register is not a number in its range
 abbrev pub has_bad_number : ParsedLine → Bool
@@ -86,7 +86,7 @@ has_wrong_core_number earlier line = elim line.word [
 
 -- 11: the 65th core
 abbrev pub is_one_core_too_many : List ParsedLine → ParsedLine → Bool
-is_one_core_too_many earlier line = elim line.word [ Core ↦ nat_le CORE_LIMIT (core_count earlier) | _ ↦ false ]
+is_one_core_too_many earlier line = elim line.word [ Core ↦ nat_le 64 (core_count earlier) | _ ↦ false ]
 
 -- 12: a step of the boot core
 abbrev pub is_boot_step : List ParsedLine → ParsedLine → Bool
@@ -115,6 +115,10 @@ is_second_finalise earlier line = elim line.word [ Finalise ↦ list_any is_fina
 abbrev pub is_incomplete : List ParsedLine → ParsedLine → Bool
 is_incomplete earlier line = nat_lt 4 (section_of line.word) && not (list_any is_finalise earlier)
 
+-- 16: a command line of more than 2048 bytes
+abbrev pub is_command_line_too_long : ParsedLine → Bool
+is_command_line_too_long line = elim line.word [ CommandLine ↦ nat_lt 2048 line.text_length | _ ↦ false ]
+
 -- the first kind whose test is true
 abbrev pub first_true : List (Bool × TextKind) → Option TextKind
 first_true tests = option_map (λ (test : Bool × TextKind). test.1) (find (λ (test : Bool × TextKind). test.0) tests)
@@ -134,6 +138,7 @@ kind_tests earlier line =
     ∷ (is_out_of_turn earlier line, kind.Turn)
     ∷ (is_second_finalise earlier line, kind.Finalise)
     ∷ (is_incomplete earlier line, kind.Incomplete)
+    ∷ (is_command_line_too_long line, kind.CmdlineTooLong)
     ∷ []
 
 -- the lowest kind that holds at a line after line 1; none holds at a line that is passed over

@@ -1,13 +1,12 @@
 -- What the reader keeps of the lines that it has read. The rules are those of Kinds, asked of what it keeps.
 use Rattle.std.specs.Prelude.{◌≡◌, ℕ, ◌+◌, ◌-◌, ◌==◌, ◌&&◌, ◌||◌, not, max, Bool, true, false, nat_lt, nat_le, is_some, if◌then◌else◌, List, [], ◌∷◌, ◌++◌, length, replicate, slice_set, slice_index_or, Option, Some, None, option_map, unwrap_or}
-use Rattle.std.specs.Option.{option_map_or, option_to_list}
+use Rattle.std.specs.Option.{option_map_or, option_to_list, option_copied}
 use Rattle.std.specs.List.{list_any}
 use Rattle.armcaps_enc.specs.declared.register.SysReg.{SysReg}
 use Rattle.armcaps_enc.specs.Registers.{place_of}
 use Rattle.armcaps_text.specs.Words.{section_of, is_header}
-use Rattle.armcaps_text.specs.Kinds.{core_named, is_skipped, is_unknown, is_second_header, has_wrong_token_count, has_bad_number, is_step_of, first_true}
+use Rattle.armcaps_text.specs.Kinds.{core_named, is_skipped, is_unknown, is_second_header, has_wrong_token_count, has_bad_number, is_step_of, is_command_line_too_long, first_true}
 use Rattle.armcaps_text.specs.Document.{Reading}
-use Rattle.armcaps_text.specs.declared.machine.TheConstants.{CORE_LIMIT}
 use Rattle.armcaps_text.specs.declared.kind.TextKind.{TextKind}
 use Rattle.armcaps_text.specs.declared.kind.TextKind.TheVariants as kind
 use Rattle.armcaps_text.specs.declared.kind.TextRefused.{TextRefused}
@@ -16,13 +15,15 @@ use Rattle.armcaps_text.specs.declared.machine.StepLine.{StepLine}
 use Rattle.armcaps_text.specs.declared.machine.StepLine.TheVariants as step
 use Rattle.armcaps_text.specs.declared.parsed.ParsedLine.{ParsedLine}
 use Rattle.armcaps_text.specs.declared.reader.Reader.{Reader}
-use Rattle.armcaps_text.specs.declared.word.Word.TheVariants.{NotYet, Core, Register, Boot, Online, Finalise}
+use Rattle.armcaps_text.specs.declared.word.Word.TheVariants.{NotYet, Core, Register, Boot, CommandLine, Online, Finalise}
 
--- the cores' words, the registers named since the last `core` line, the boot core, the steps, the highest section
+-- the cores' words, the registers named since the last `core` line, the boot core, the command line, the steps, the
+-- highest section
 pub record State : Type 0 where
   pub cores : List (List ℕ)
   pub named : List SysReg
   pub boot : Option ℕ
+  pub command_line : Option (List ℕ)
   pub steps : List StepLine
   pub section : ℕ
 
@@ -32,6 +33,7 @@ state_of reader = record {
   cores = reader.cores.items;
   named = reader.named.items;
   boot = reader.boot;
+  command_line = option_copied reader.command_line;
   steps = reader.steps.items;
   section = reader.section;
 }
@@ -51,6 +53,7 @@ not_yet_by state line = elim line.word [ NotYet ↦ true | Online ↦ is_final s
 abbrev pub misplaced_by : State → ParsedLine → Bool
 misplaced_by state line = elim line.word [
   | Boot ↦ is_some state.boot || not (nat_lt 0 (length state.cores))
+  | CommandLine ↦ is_some state.command_line
   | Register reg ↦ not (nat_lt 0 (length state.cores))
   | _ ↦ false
 ]
@@ -75,7 +78,7 @@ wrong_core_number_by state line = elim line.word [
 ]
 
 abbrev pub too_many_by : State → ParsedLine → Bool
-too_many_by state line = elim line.word [ Core ↦ nat_le CORE_LIMIT (length state.cores) | _ ↦ false ]
+too_many_by state line = elim line.word [ Core ↦ nat_le 64 (length state.cores) | _ ↦ false ]
 
 abbrev pub boot_step_by : State → ParsedLine → Bool
 boot_step_by state line = elim line.word [
@@ -111,6 +114,7 @@ lowest_by state line =
     ∷ (out_of_turn_by state line, kind.Turn)
     ∷ (second_finalise_by state line, kind.Finalise)
     ∷ (incomplete_by state line, kind.Incomplete)
+    ∷ (is_command_line_too_long line, kind.CmdlineTooLong)
     ∷ [])
 
 -- the kind at a line, taken apart, after this many lines
@@ -129,14 +133,15 @@ with_word cores place word =
     let last = length cores - 1 in
     slice_set cores last (slice_set (slice_index_or cores last []) place word)
 
--- what is kept after one more line
-unfoldable pub learned : State → ParsedLine → State
-learned state line =
+-- what is kept after one more line, which has this text after its word
+unfoldable pub learned : State → List ℕ → ParsedLine → State
+learned state text line =
     let later = record state { section = max state.section (section_of line.word) } in
     elim line.word [
       | Core ↦ record later { cores = state.cores ++ replicate 17 0 ∷ []; named = [] }
       | Register reg ↦ record later { cores = with_word state.cores (place_of reg) (unwrap_or line.value 0); named = state.named ++ reg ∷ [] }
       | Boot ↦ record later { boot = line.core }
+      | CommandLine ↦ record later { command_line = Some text }
       | Online ↦ record later { steps = state.steps ++ option_to_list (option_map step.Online line.core) }
       | Finalise ↦ record later { steps = state.steps ++ step.Finalise ∷ [] }
       | _ ↦ later
@@ -144,4 +149,4 @@ learned state line =
 
 -- what the lines say
 abbrev pub reading_by : State → Reading
-reading_by state = record { cores = state.cores; boot = unwrap_or state.boot 0; steps = state.steps }
+reading_by state = record { cores = state.cores; boot = unwrap_or state.boot 0; cmdline = unwrap_or state.command_line []; steps = state.steps }

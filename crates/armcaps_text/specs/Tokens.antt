@@ -1,7 +1,7 @@
 -- The tokens of a line, and the numbers among them.
-use Rattle.std.specs.Prelude.{ℕ, ◌+◌, ◌*◌, ◌^◌, ◌==◌, ◌&&◌, Bool, nat_lt, nat_le, nat_eq, if◌then◌else◌, List, [], length, drop, codes, filter, fold, Option, Some, None, option_and_then, unwrap_or}
-use Rattle.std.specs.Char.{digit_value, is_digit}
-use Rattle.std.specs.List.{slice_get, slice_split, list_all, starts_with}
+use Rattle.std.specs.Prelude.{ℕ, ◌==◌, Bool, not, nat_lt, nat_le, nat_eq, if◌then◌else◌, List, [], length, drop, codes, filter, Option, Some, None, option_and_then, unwrap_or}
+use Rattle.std.specs.List.{after_first, position_or_len, slice_get, slice_split, starts_with}
+use Rattle.armcaps_cmdline.specs.Values.{value_of}
 
 -- a space cuts a line; a tab or a carriage return is a byte like others
 abbrev pub is_space : ℕ → Bool
@@ -15,27 +15,17 @@ tokens line = filter (λ piece. nat_lt 0 (length piece)) (slice_split is_space l
 abbrev pub token_at : ℕ → List ℕ → List ℕ
 token_at place line = unwrap_or (slice_get (tokens line) place) []
 
--- the number that the digits write in a base
-abbrev pub value_in : ℕ → List ℕ → ℕ
-value_in base digits = fold (λ value digit. value * base + digit_value digit) 0 digits
+-- what stands after the first space that follows a line's first token; empty where there is none
+unfoldable pub text_after_word : List ℕ → List ℕ
+text_after_word line = after_first is_space (drop (position_or_len (λ byte. not (is_space byte)) line) line)
 
--- the number that bytes write in a base, where each is a digit of it and the number is below 2^64
-abbrev pub digits_number : ℕ → List ℕ → Option ℕ
-digits_number base digits =
-    if list_all (λ byte. is_digit byte base) digits && nat_lt (value_in base digits) (2 ^ 64)
-    then Some (value_in base digits)
-    else None
+-- how many bytes a number may have: 20 decimal digits, or `0x` and 16 hexadecimal digits
+abbrev pub most_bytes : List ℕ → ℕ
+most_bytes token = if starts_with nat_eq token (codes "0x") then 18 else 20
 
--- the same of 1 to `most` bytes
-abbrev pub number_in : (base most : ℕ) → List ℕ → Option ℕ
-number_in base most digits =
-    if nat_le 1 (length digits) && nat_le (length digits) most then digits_number base digits else None
-
--- the number that a token is: 1 to 20 decimal digits, or `0x` and 1 to 16 hexadecimal digits, below 2^64
+-- the number that a token is: 1 to 20 decimal digits, or `0x` and 1 to 16 hexadecimal digits of either case, below 2^64
 unfoldable pub number_of : List ℕ → Option ℕ
-number_of token =
-    if starts_with nat_eq token (codes "0x") then number_in 16 16 (drop 2 token)
-    else number_in 10 20 token
+number_of token = if nat_le (length token) (most_bytes token) then value_of token else None
 
 -- the number of a core that a token is: a number of at most 4294967295
 abbrev pub core_of : List ℕ → Option ℕ

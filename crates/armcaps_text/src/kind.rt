@@ -16,8 +16,8 @@ pub enum TextKind {
     TextTooLong,
     /// The first token of the line is no word of the format.
     UnknownLine,
-    /// A second header; a section lower than an earlier line's; a second `boot` line; a `boot` or register line
-    /// before any `core` line; a step or `end` before the `boot` line.
+    /// A second header; a section lower than an earlier line's; a second `boot` or `cmdline` line; a `boot` or register
+    /// line before any `core` line; a line of a later section before the `boot` line.
     Order,
     /// The line has too few or too many tokens.
     Tokens,

@@ -2,11 +2,11 @@
 ghost use Rattle.std.specs.Prelude.{◌≡◌, ◌==◌};
 ghost use Rattle.std.specs.List.{list_any};
 ghost use Rattle.armcaps_enc.specs.Registers.{place_of};
-ghost use Rattle.armcaps_text.specs.Kinds.{core_named, is_skipped, is_unknown, is_second_header, has_wrong_token_count, has_bad_number, is_step_of};
+ghost use Rattle.armcaps_text.specs.Kinds.{core_named, is_skipped, is_unknown, is_second_header, has_wrong_token_count, has_bad_number, is_command_line_too_long, is_step_of};
 ghost use Rattle.armcaps_text.specs.Reader.{state_of, is_final, is_finalise_step, not_yet_by, misplaced_by, out_of_order_by, twice_by, wrong_core_number_by, too_many_by, boot_step_by, out_of_turn_by, second_finalise_by, incomplete_by, lowest_by, kind_by};
 
 use crate::kind::TextKind;
-use crate::machine::{CORE_LIMIT, StepLine};
+use crate::machine::{COMMAND_LINE_LIMIT, CORE_LIMIT, StepLine};
 use crate::parsed::{ParsedLine, is_header};
 use crate::reader::Reader;
 use crate::word::Word;
@@ -38,7 +38,10 @@ impl ParsedLine {
     fn has_wrong_token_count(&self) -> bool
         ensures { result ≡ has_wrong_token_count self.now }
     {
-        self.tokens != self.word.token_count()
+        match self.word.token_count() {
+            Some(count) => self.tokens != count,
+            None => false,
+        }
     }
 
     fn has_bad_number(&self) -> bool
@@ -47,6 +50,15 @@ impl ParsedLine {
         match self.word {
             Word::Core | Word::Boot | Word::Online => self.core.is_none(),
             Word::Register(_) => self.value.is_none(),
+            _ => false,
+        }
+    }
+
+    fn has_long_command_line(&self) -> bool
+        ensures { result ≡ is_command_line_too_long self.now }
+    {
+        match self.word {
+            Word::CommandLine => self.text_length > COMMAND_LINE_LIMIT,
             _ => false,
         }
     }
@@ -70,7 +82,7 @@ impl StepLine {
     }
 }
 
-impl Reader {
+impl Reader<'_> {
     // Whether `finalise` has stood.
     fn is_final(&self) -> bool
         ensures { result ≡ is_final (state_of self.now) }
@@ -107,6 +119,7 @@ impl Reader {
     {
         match line.word {
             Word::Boot => self.boot.is_some() || self.cores.is_empty(),
+            Word::CommandLine => self.command_line.is_some(),
             Word::Register(_) => self.cores.is_empty(),
             _ => false,
         }
@@ -214,6 +227,8 @@ impl Reader {
             Some(TextKind::Finalise)
         } else if self.is_incomplete(line) {
             Some(TextKind::Incomplete)
+        } else if line.has_long_command_line() {
+            Some(TextKind::CmdlineTooLong)
         } else {
             None
         }

@@ -7,6 +7,7 @@
 //! - `armcaps 1`, line 1.
 //! - `core K` for each core, from 0 on, and after it `REG VALUE` for each register that is not 0.
 //! - `boot K`, the boot core.
+//! - `cmdline TEXT`, the kernel command line, if there is one: what stands after the first space that follows the word.
 //! - `online K` for each other core that comes up, and `finalise`.
 //! - `end`, the last line.
 //!

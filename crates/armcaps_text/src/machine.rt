@@ -5,11 +5,14 @@ ghost use Rattle.armcaps_text.specs.Document.{unended_kind};
 use crate::kind::{TextKind, TextRefused};
 use crate::lines::{TEXT_LIMIT, first_mebibyte, next_line};
 use crate::reader::Reader;
-use armcaps_tables::CoreRegs;
+use armcaps_tables::{CoreRegs, Overrides};
 use std::alloc::Global;
 
 /// A machine has at most this many cores.
 pub const CORE_LIMIT: usize = 64;
+
+/// A command line has at most this many bytes.
+pub const COMMAND_LINE_LIMIT: usize = 2048;
 
 /// A step of the bring-up of secondary cores.
 #[derive(Clone, Copy, Debug, PartialEq, Eq)]
@@ -27,6 +30,8 @@ pub struct Machine {
     pub cores: Vec<CoreRegs>,
     /// The number of the core that the machine boots on.
     pub boot: u32,
+    /// The overrides that the command line gives.
+    pub overrides: Overrides,
     /// The steps in the order of the text.
     pub steps: Vec<StepLine>,
 }
@@ -44,13 +49,13 @@ fn unended_kind(bytes: &[u8]) -> TextKind
 
 impl Machine {
     ghost use Rattle.std.specs.Prelude.{◌≡◌, ◌<◌, ◌≤◌, IfOk, IfErr, length, vec_len};
-    ghost use Rattle.armcaps_text.specs.Document.{Reads, outcome, reading_of, IsRefusalOf};
+    ghost use Rattle.armcaps_text.specs.Document.{IsReadAs, IsRefusalOf};
 
     /// Reads the machine text at the beginning of the bytes, and says how many of them it takes. What follows its last
     /// line is not looked at, but that it is there decides whether a text that does not end is cut off or too long. A text
     /// is refused at the first line where some kind holds, with the lowest kind there. Memory may run out on any text.
     pub fn read(alloc: Global, bytes: &[u8]) -> Result<(Machine, usize), TextRefused>
-        ensures reads { IfOk result (λ read. outcome bytes.now ≡ Reads (reading_of read.0) read.1) }
+        ensures reads { IfOk result (λ read. IsReadAs bytes.now read.0 read.1) }
         ensures place { IfOk result (λ read. read.1 ≤ length bytes.now) }
         ensures boot { IfOk result (λ read. read.0.boot < vec_len read.0.cores) }
         ensures refuses { IfErr result (λ refused. IsRefusalOf bytes.now refused) }

@@ -3,7 +3,7 @@ ghost use Rattle.std.specs.Prelude.{◌≡◌};
 ghost use Rattle.armcaps_text.specs.Words.{is_header};
 
 use crate::number::{core_of, number_of};
-use crate::tokens::Tokens;
+use crate::tokens::{Tokens, text_after_word};
 use crate::word::Word;
 
 /// What a line says by itself.
@@ -17,6 +17,8 @@ pub struct ParsedLine {
     pub value: Option<u64>,
     /// The second token as the number of a core, if it is one.
     pub core: Option<u32>,
+    /// How many bytes stand after the first space that follows the first token.
+    pub text_length: usize,
 }
 
 impl ParsedLine {
@@ -33,6 +35,7 @@ impl ParsedLine {
             tokens: tokens.count,
             value: number_of(tokens.second),
             core: core_of(tokens.second),
+            text_length: text_after_word(line).len(),
         }
     }
 }

@@ -2,41 +2,51 @@
 use crate::kind::TextRefused;
 use crate::machine::{Machine, StepLine};
 use crate::parsed::ParsedLine;
+use crate::tokens::text_after_word;
 use crate::word::Word;
+use armcaps_cmdline::parse;
 use armcaps_enc::SysReg;
 use armcaps_tables::CoreRegs;
 use std::alloc::{AllocError, Global};
 
 /// What the lines read so far say.
 #[derive(Drop)]
-pub struct Reader {
+pub struct Reader<'a> {
     /// The registers of the cores begun so far.
     pub cores: Vec<CoreRegs>,
     /// The registers named since the last core was begun.
     pub named: Vec<SysReg>,
     /// The number of the boot core, once a line names it.
     pub boot: Option<u32>,
+    /// The command line, once a line gives it.
+    pub command_line: Option<&'a [u8]>,
     /// The steps so far.
     pub steps: Vec<StepLine>,
     /// The highest section that a line has stood in.
     pub section: u8,
 }
 
-impl Reader {
-    ghost use Rattle.std.specs.Prelude.{◌≡◌, [], ◌∷◌, ◌++◌, ◌+◌, ◌<◌, None, IsSome, IfOk, IfErr, max, replicate};
+impl<'a> Reader<'a> {
+    ghost use Rattle.std.specs.Prelude.{◌≡◌, ℕ, length, unwrap_or, [], ◌∷◌, ◌++◌, ◌+◌, ◌<◌, None, IsSome, IfOk, IfErr, max, replicate};
+    ghost use Rattle.armcaps_enc.specs.declared.register.SysReg.{SysReg};
     ghost use Rattle.armcaps_enc.specs.Registers.{place_of};
+    ghost use Rattle.armcaps_tables.specs.Rows.{rows_of};
+    ghost use Rattle.armcaps_tables.specs.Overriding.{override_of};
+    ghost use Rattle.armcaps_cmdline.specs.Overrides.{command_line_override};
+    ghost use Rattle.armcaps_text.specs.Tokens.{text_after_word};
     ghost use Rattle.armcaps_text.specs.Words.{section_of, parsed_line};
     ghost use Rattle.armcaps_text.specs.Document.{is_last, reading_of};
     ghost use Rattle.armcaps_text.specs.Reader.{state_of, with_word, learned, kind_by, reading_by, IsRefusalBy};
 
     /// A reader before the first line.
-    pub fn new(alloc: Global) -> Reader
-        ensures { state_of result ≡ record { cores = []; named = []; boot = None; steps = []; section = 0 } }
+    pub fn new(alloc: Global) -> Reader<'a>
+        ensures { state_of result ≡ record { cores = []; named = []; boot = None; command_line = None; steps = []; section = 0 } }
     {
         Reader {
             cores: Vec::new(alloc),
             named: Vec::new(alloc),
             boot: None,
+            command_line: None,
             steps: Vec::new(alloc),
             section: 0,
         }
@@ -78,10 +88,10 @@ impl Reader {
         self.section = self.section.max(word.section());
     }
 
-    /// Takes in what a line says.
+    /// Takes in what a line says, which has this text after its word.
     #[tactic(auto, unfolding(crate::specs::Reader::learned))]
-    pub fn learn(&mut self, line: &ParsedLine) -> Result<(), AllocError>
-        ensures { IfOk result (λ _. state_of self.new ≡ learned (state_of self.old) line.now) }
+    pub fn learn(&mut self, text: &'a [u8], line: &ParsedLine) -> Result<(), AllocError>
+        ensures { IfOk result (λ _. state_of self.new ≡ learned (state_of self.old) text.now line.now) }
     {
         self.reach(line.word);
         match line.word {
@@ -89,6 +99,10 @@ impl Reader {
             Word::Register(reg) => self.set_register(reg, line.value.unwrap_or(0)),
             Word::Boot => {
                 self.boot = line.core;
+                Ok(())
+            }
+            Word::CommandLine => {
+                self.command_line = Some(text);
                 Ok(())
             }
             Word::Online => match line.core {
@@ -101,11 +115,11 @@ impl Reader {
     }
 
     /// Takes in a line after this many others, and says whether it is the last of its text.
-    pub fn take(&mut self, lines: u32, text: &[u8]) -> Result<bool, TextRefused>
+    pub fn take(&mut self, lines: u32, text: &'a [u8]) -> Result<bool, TextRefused>
         requires { lines < u32.MAX }
         ensures kind { IfOk result (λ _. kind_by (state_of self.old) lines text.now (parsed_line text.now) ≡ None) }
         ensures last { IfOk result (λ last. last ≡ is_last text.now) }
-        ensures state { IfOk result (λ _. state_of self.new ≡ learned (state_of self.old) (parsed_line text.now)) }
+        ensures state { IfOk result (λ _. state_of self.new ≡ learned (state_of self.old) (text_after_word text.now) (parsed_line text.now)) }
         ensures refusal { IfErr result (λ refused. IsRefusalBy (kind_by (state_of self.old) lines text.now (parsed_line text.now)) lines refused) }
     {
         let line = ParsedLine::of(text);
@@ -115,7 +129,7 @@ impl Reader {
                 kind,
             });
         }
-        match self.learn(&line) {
+        match self.learn(text_after_word(text), &line) {
             Ok(()) => Ok(matches!(line.word, Word::End)),
             Err(_) => Err(TextRefused::Memory),
         }
@@ -124,18 +138,21 @@ impl Reader {
     /// The machine that the lines describe, once they name its boot core.
     pub fn machine(self) -> Machine
         requires { IsSome (state_of self).boot }
-        ensures { reading_of result ≡ reading_by (state_of self) }
+        ensures reading { reading_of result (unwrap_or (state_of self.entry).command_line []) ≡ reading_by (state_of self.entry) }
+        ensures overrides { (register : SysReg) (index : ℕ) → index < length (rows_of register) → override_of result.overrides register index ≡ command_line_override (unwrap_or (state_of self.entry).command_line []) register index }
     {
         let Reader {
             cores,
             named: _,
             boot,
+            command_line,
             steps,
             section: _,
         } = self;
         Machine {
             cores,
             boot: boot.unwrap(),
+            overrides: parse(command_line.unwrap_or(&[])),
             steps,
         }
     }

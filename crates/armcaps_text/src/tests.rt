@@ -1,6 +1,7 @@
 // Texts and what becomes of them.
 use crate::{Machine, StepLine, TextKind, TextRefused};
 use armcaps_enc::SysReg;
+use armcaps_tables::find;
 use std::alloc::{AllocError, Global};
 use std::fmt::Write;
 use std::test::Fail;
@@ -26,7 +27,7 @@ fn cores(alloc: Global, count: u32) -> Result<String, AllocError> {
 fn refuses_at_the_first_line_with_its_lowest_kind(rt: HostRuntime) {
     for (text, line, kind) in [
         // a form of line that is not read yet, whatever else is wrong with it
-        ("armcaps 1\ncmdline quiet\n", 2, TextKind::NotYet),
+        ("armcaps 1\ncheck 1\n", 2, TextKind::NotYet),
         ("armcaps 1\nnumber\n", 2, TextKind::NotYet),
         (
             "armcaps 1\ncore 0\ncore 1\nboot 0\nfinalise\nonline 1\n",
@@ -56,6 +57,17 @@ fn refuses_at_the_first_line_with_its_lowest_kind(rt: HostRuntime) {
         ("armcaps 1\ncore 0\nboot 0\ncore 1\n", 4, TextKind::Order),
         ("armcaps 1\ncore 0\nboot 0\nboot 0\n", 4, TextKind::Order),
         ("armcaps 1\nctr_el0 1\n", 2, TextKind::Order),
+        ("armcaps 1\ncore 0\ncmdline quiet\n", 3, TextKind::Order),
+        (
+            "armcaps 1\ncore 0\nboot 0\ncmdline\ncmdline\n",
+            5,
+            TextKind::Order,
+        ),
+        (
+            "armcaps 1\ncore 0\nboot 0\nfinalise\ncmdline quiet\n",
+            5,
+            TextKind::Order,
+        ),
         ("armcaps 1\nboot\n", 2, TextKind::Order),
         ("armcaps 1\nend\n", 2, TextKind::Order),
         ("armcaps 1\ncore 0\nboot\n", 3, TextKind::Tokens),
@@ -172,6 +184,48 @@ fn takes_sixty_four_cores(rt: HostRuntime) -> Result<(), Fail> {
         refusal(rt.alloc(), text.as_bytes()),
         Some((66, TextKind::CoreNumber))
     );
+    Ok(())
+}
+
+// The header, a core and a command line of this many bytes after a space, which is one of them.
+fn commanded(alloc: Global, count: u32) -> Result<String, AllocError> {
+    let mut text = String::from_str(alloc, "armcaps 1\ncore 0\nboot 0\ncmdline  ")?;
+    for _ in 1..count {
+        text.push_str("x")?;
+    }
+    text.push_str("\nfinalise\nend\n")?;
+    Ok(text)
+}
+
+#[test]
+fn takes_a_long_command_line(rt: HostRuntime) -> Result<(), Fail> {
+    let text = commanded(rt.alloc(), 2048)?;
+    assert_eq!(rt; refusal(rt.alloc(), text.as_bytes()), None);
+    let text = commanded(rt.alloc(), 2049)?;
+    assert_eq!(rt;
+        refusal(rt.alloc(), text.as_bytes()),
+        Some((4, TextKind::CmdlineTooLong))
+    );
+    Ok(())
+}
+
+#[test]
+fn reads_overrides(rt: HostRuntime) -> Result<(), Fail> {
+    let aes = find(SysReg::IdAa64Isar0El1, b"aes".as_slice()).expect(&rt, "aes");
+    for (line, wanted) in [
+        ("cmdline quiet id_aa64isar0.aes=0x11", Some(1)),
+        ("  cmdline  id_aa64isar0.aes=1 id_aa64isar0.aes=2", Some(2)),
+        ("cmdline id_aa64isar0.sha1=1", None),
+        ("cmdline", None),
+    ] {
+        let text = format!(in rt.alloc(); "armcaps 1\ncore 0\nboot 0\n{line}\nfinalise\nend\n")?;
+        let (machine, _) = Machine::read(rt.alloc(), text.as_bytes())?;
+        assert_eq!(rt;
+            machine.overrides.get(SysReg::IdAa64Isar0El1, aes),
+            wanted,
+            "{line}"
+        );
+    }
     Ok(())
 }
 

@@ -1,6 +1,6 @@
 // The tokens of a line.
 ghost use Rattle.std.specs.Prelude.{◌≡◌, ◌+◌, ◌<◌, ◌≤◌, ◌==◌, [], ◌∷◌, length, not, position, MatchOption};
-ghost use Rattle.armcaps_text.specs.Tokens.{tokens, token_at, is_space};
+ghost use Rattle.armcaps_text.specs.Tokens.{tokens, token_at, is_space, text_after_word};
 
 use crate::lines::find_byte;
 
@@ -45,6 +45,21 @@ fn count(line: &[u8]) -> usize
         rest = after;
     }
     count
+}
+
+/// What stands after the first space that follows a line's first token.
+#[tactic(auto, using(crate::proofs::TokenLemmas::text_some, crate::proofs::TokenLemmas::text_none, crate::proofs::TokenLemmas::text_blank))]
+pub fn text_after_word(line: &[u8]) -> &[u8]
+    ensures { result.now ≡ text_after_word line.now }
+{
+    let Some(start) = start_of(line) else {
+        return &[];
+    };
+    let line = &line[start..];
+    match find_byte(line, SPACE) {
+        Some(end) => &line[end + 1..],
+        None => &[],
+    }
 }
 
 impl<'a> Tokens<'a> {

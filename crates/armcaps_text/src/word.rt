@@ -23,6 +23,8 @@ pub enum Word {
     Register(SysReg),
     /// `boot`
     Boot,
+    /// `cmdline`
+    CommandLine,
     /// `online`
     Online,
     /// `finalise`
@@ -46,8 +48,7 @@ fn is_passed_over(token: &[u8]) -> bool
 fn is_not_yet(token: &[u8]) -> bool
     ensures { result ≡ list_any (bytes_eq token.now) words_not_yet }
 {
-    token == b"cmdline".as_slice()
-        || token == b"check".as_slice()
+    token == b"check".as_slice()
         || token == b"local".as_slice()
         || token == b"store".as_slice()
         || token == b"number".as_slice()
@@ -76,6 +77,8 @@ impl Word {
             Word::Core
         } else if token == b"boot".as_slice() {
             Word::Boot
+        } else if token == b"cmdline".as_slice() {
+            Word::CommandLine
         } else if token == b"online".as_slice() {
             Word::Online
         } else if token == b"finalise".as_slice() {
@@ -98,19 +101,20 @@ impl Word {
             Word::Skipped | Word::NotYet | Word::Unknown | Word::Header => 0,
             Word::Core | Word::Register(_) => 1,
             Word::Boot => 2,
+            Word::CommandLine => 3,
             Word::Online | Word::Finalise => 4,
             Word::End => 9,
         }
     }
 
-    /// How many tokens a form of line has.
-    pub fn token_count(self) -> usize
+    /// How many tokens a form of line has; nothing where it may have any number of them.
+    pub fn token_count(self) -> Option<usize>
         ensures { result ≡ token_count self }
     {
         match self {
-            Word::Skipped | Word::NotYet | Word::Unknown => 0,
-            Word::Header | Word::Core | Word::Register(_) | Word::Boot | Word::Online => 2,
-            Word::Finalise | Word::End => 1,
+            Word::Skipped | Word::NotYet | Word::Unknown | Word::CommandLine => None,
+            Word::Header | Word::Core | Word::Register(_) | Word::Boot | Word::Online => Some(2),
+            Word::Finalise | Word::End => Some(1),
         }
     }
 }

@@ -1,7 +1,7 @@
-use Rattle.std.proofs.Common.{◌<◌, length, sym, ap, subst, ◌∙◌, arith}
+use Rattle.std.proofs.Common.{◌<◌, [], unwrap_or, length, sym, ap, subst, ◌∙◌, arith}
 use Rattle.std.proofs.lemmas.Result.{err_from_is_err_and}
 use Rattle.armcaps_text.specs.Document.{Reading}
-use Rattle.armcaps_text.specs.Reader.{State}
+use Rattle.armcaps_text.specs.Reader.{State, state_of}
 use Rattle.armcaps_text.proofs.Reading.{Walked, starts, refused_by, ended, goes_on, few_lines, within_input, boot_known}
 use Rattle.armcaps_text.proofs.Whole.{reads_whole}
 use Rattle.armcaps_text.proofs.machine.Machine.read.Goals as goal
@@ -23,13 +23,17 @@ returns-in_err-last-clause-refuses c =
 pub returns-then-last-clause-reads : goal.returns-then-last-clause-reads
 returns-then-last-clause-reads c =
     let read = ended _ _ _ _ _ _ c.in-Some.after.now c.loop-line.invariant c.in-Some.ensures.line c.in-Some.ensures.bytes c.in_ok-last.ensures.kind (sym c.in_ok-last.ensures.last ∙ c.if-last.true) c.in_ok-last.ensures.state in
-    rw (c.machine.ensures, c.first_mebibyte-text.ensures) read
+    record {
+      cmdline = unwrap_or (state_of c.take.new.self).command_line [];
+      reads = rw (c.machine.ensures.reading, c.first_mebibyte-text.ensures) read;
+      overrides = c.machine.ensures.overrides;
+    }
 
 pub returns-then-last-clause-boot : goal.returns-then-last-clause-boot
 returns-then-last-clause-boot c =
     let read = ended _ _ _ _ _ _ c.in-Some.after.now c.loop-line.invariant c.in-Some.ensures.line c.in-Some.ensures.bytes c.in_ok-last.ensures.kind (sym c.in_ok-last.ensures.last ∙ c.if-last.true) c.in_ok-last.ensures.state in
     let boot = (reads_whole _ _ _ read).0.boot in
-    let here = subst (λ (reading : Reading). reading.boot < length reading.cores) (sym c.machine.ensures) boot in
+    let here = subst (λ (reading : Reading). reading.boot < length reading.cores) (sym c.machine.ensures.reading) boot in
     omega (arith, here, c.machine.result.cores.ok.0)
 
 pub returns-then-last-clause-place : goal.returns-then-last-clause-place
