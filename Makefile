@@ -3,7 +3,7 @@ PREFIX ?= /usr/local
 PROGRAM := crates/armcaps/out/armcaps
 
 all:
-	cd crates/armcaps && rt run -- report < ../../examples/one-core.txt > /dev/null
+	cd crates/armcaps && rt run -- report < ../../examples/big-little.txt > /dev/null
 
 check:
 	rt ci

@@ -1,5 +1,5 @@
 -- Overrides that say the same of each field make the same report.
-use Rattle.std.proofs.Common.{◌≡◌, ℕ, ℤ, ◌+◌, ◌<◌, List, [], ◌∷◌, length, map, Option, None, refl, sym, ◌∙◌, ap, subst, arith, zero, suc, ◌*◌, ◌^◌}
+use Rattle.std.proofs.Common.{◌≡◌, ℕ, ℤ, ◌+◌, ◌<◌, List, [], ◌∷◌, length, map, Option, refl, sym, ◌∙◌, ap, subst, arith, zero, suc, ◌*◌, ◌^◌}
 use Rattle.std.specs.Prelude.{slice_index_or}
 use Rattle.std.specs.List.{flat_map, enumerate_from, range_with_len}
 use Rattle.std.proofs.lemmas.List.Sums.{sum_by-cons}
@@ -77,11 +77,6 @@ report_of-same one other reading agree =
       flat_map-same (note_lines one (slice_index_or reading.cores reading.boot [])) (note_lines other (slice_index_or reading.cores reading.boot [])) tracked
           (λ register. note_lines-same one other (slice_index_or reading.cores reading.boot []) register agree),
     ) refl
-
--- overrides that say nothing are as good as none
-pub report_without : (overrides : List (Option ℤ)) (reading : Reading) → ((register : SysReg) (index : ℕ) → override_of overrides register index ≡ None) →
-    report_of overrides reading ≡ report_of [] reading
-report_without overrides reading none = report_of-same overrides [] reading record { each = λ register index inside. none register index }
 
 -- a register's word among the words of all
 pub core_word_map : (word : SysReg → ℕ) (register : SysReg) → core_word (map word registers) register ≡ word register

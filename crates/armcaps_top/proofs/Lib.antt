@@ -5,3 +5,4 @@ pub mod Standing
 pub mod Agreeing
 pub mod Joining
 pub mod Refused
+pub mod Overrides

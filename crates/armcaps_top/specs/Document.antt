@@ -1,6 +1,11 @@
 -- Which inputs are documents. The format is this project's own.
-use Rattle.std.specs.Prelude.{ℕ, ◌==◌, List, length, Option, None, Some, if◌then◌else◌}
-use Rattle.armcaps_text.specs.Document.{Reading, Outcome, Reads, Refuses, outcome}
+use Rattle.std.specs.Prelude.{◌≡◌, ℕ, ◌==◌, ◌<◌, List, length, Option, None, Some, if◌then◌else◌}
+use Rattle.armcaps_enc.specs.declared.register.SysReg.{SysReg}
+use Rattle.armcaps_tables.specs.Overriding.{override_of}
+use Rattle.armcaps_tables.specs.Rows.{rows_of}
+use Rattle.armcaps_cmdline.specs.Overrides.{command_line_override}
+use Rattle.armcaps_text.specs.Document.{Reading, Outcome, Reads, Refuses, outcome, reading_of}
+use Rattle.armcaps_text.specs.declared.machine.Machine.{Machine}
 
 -- the reading of a text, where the input of this many bytes ends with the text's last line
 abbrev pub whole_reading : Outcome → ℕ → Option Reading
@@ -10,3 +15,10 @@ whole_reading (Refuses line kind) size = None
 -- what an input reads as: its text has no fault, and nothing follows its last line
 unfoldable pub document : List ℕ → Option Reading
 document input = whole_reading (outcome input) (length input)
+
+-- the machine is what an input reads as, and its overrides are those of the command line
+pub record IsMachineOf (input : List ℕ) (machine : Machine) : Type 0 where
+  pub cmdline : List ℕ
+  pub reads : document input ≡ Some (reading_of machine cmdline)
+  pub overrides : (register : SysReg) (index : ℕ) → index < length (rows_of register)
+      → override_of machine.overrides register index ≡ command_line_override cmdline register index

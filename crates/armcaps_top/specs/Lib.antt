@@ -4,3 +4,4 @@ pub mod Report
 pub mod Refusals
 pub mod Ending
 pub mod Run
+pub mod Overriding

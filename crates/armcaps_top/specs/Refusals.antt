@@ -4,7 +4,6 @@ use Rattle.armcaps_text.specs.Document.{Reading, Reads, outcome}
 use Rattle.armcaps_text.specs.Document as text
 use Rattle.armcaps_top.specs.declared.ending.Ending.{Ending}
 use Rattle.armcaps_top.specs.declared.ending.Ending.TheVariants.{Done, Usage, Refused, ReadFault, WriteFault, Memory}
-use Rattle.armcaps_top.specs.declared.refusal.TheConstants.{INPUT_LIMIT}
 use Rattle.armcaps_top.specs.declared.refusal.Refusal.{Refusal}
 use Rattle.armcaps_top.specs.declared.refusal.Refusal.TheVariants.{Line, TooLong, Trailing}
 
@@ -19,7 +18,7 @@ pub record IsFollowed (extra : ℕ) (input : List ℕ) : Type 0 where
 -- the refusal is that of the input: a kind at a line of its text, more bytes than the limit, or bytes after its last line
 abbrev pub IsRefusalOf : Refusal → List ℕ → Type 0
 IsRefusalOf (Line line kind) input = outcome input ≡ text.Refuses line kind
-IsRefusalOf TooLong input = INPUT_LIMIT < length input
+IsRefusalOf TooLong input = 135_266_304 < length input
 IsRefusalOf (Trailing extra) input = IsFollowed extra input
 
 -- the ending is a refusal, that of the input, or memory ran out

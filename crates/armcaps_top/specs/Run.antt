@@ -4,6 +4,7 @@ use Rattle.std.specs.Option.{option_map}
 use Rattle.std.specs.Str.{bytes_eq}
 use Rattle.armcaps_io.specs.Streams.{Appends, AppendsPrefix}
 use Rattle.armcaps_top.specs.Document.{document}
+use Rattle.armcaps_top.specs.Overriding.{overrides_of}
 use Rattle.armcaps_top.specs.Report.{report_of}
 
 -- the one form of words: `report`
@@ -12,9 +13,9 @@ is_form [] = false
 is_form (word ∷ []) = bytes_eq word (codes "report")
 is_form (word ∷ next ∷ words) = false
 
--- what is written for an input, without overrides; nothing where it is no document
+-- what is written for an input: the report under the overrides of its command line; nothing where it is no document
 abbrev pub output_of : List ℕ → Option (List ℕ)
-output_of bytes = option_map (report_of []) (document bytes)
+output_of bytes = option_map (λ reading. report_of (overrides_of reading.cmdline) reading) (document bytes)
 
 -- the input, where its bytes are told, is a document, and its output was added whole
 abbrev pub Writes : Option (List ℕ) → Option (List ℕ) → Option (List ℕ) → Type 0

@@ -1,6 +1,6 @@
 //! Which cores a machine admits, and the system that they make.
 
-ghost use Rattle.std.specs.Prelude.{◌≡◌, ◌≢◌, ◌<◌, ◌++◌, ◌∷◌, List, Option, ℤ, ℕ, length, map, vec_len, IfOk, if◌then◌else◌, slice_index_or};
+ghost use Rattle.std.specs.Prelude.{[], ◌≡◌, ◌≢◌, ◌<◌, ◌++◌, ◌∷◌, List, Option, ℤ, ℕ, length, map, vec_len, IfOk, if◌then◌else◌, slice_index_or};
 ghost use Rattle.std.specs.List.{range_with_len};
 ghost use Rattle.armcaps_sanit.specs.System.{system_words};
 ghost use Rattle.armcaps_tables.specs.Core.{Core};
@@ -9,7 +9,7 @@ ghost use Rattle.armcaps_text.specs.Document.{reading_of};
 ghost use Rattle.armcaps_top.specs.Admission.{admitted_cores, brings_up, role_of};
 
 use armcaps_sanit::System;
-use armcaps_tables::{CoreRegs, Overrides};
+use armcaps_tables::CoreRegs;
 use armcaps_text::{Machine, StepLine};
 use std::alloc::{AllocError, Global};
 
@@ -54,7 +54,7 @@ fn note_step(roles: &mut [Role], step: StepLine)
 /// The role of each core, by its number.
 pub fn roles(alloc: Global, machine: &Machine) -> Result<Vec<Role>, AllocError>
     requires { machine.now.boot < vec_len machine.now.cores }
-    ensures { IfOk result (λ roles. roles.items ≡ map (role_of (reading_of machine.now)) (range_with_len 0 (vec_len machine.now.cores))) }
+    ensures { IfOk result (λ roles. roles.items ≡ map (role_of (reading_of machine.now [])) (range_with_len 0 (vec_len machine.now.cores))) }
 {
     let mut roles = vec![in alloc; Role::Absent; machine.cores.len()]?;
     for step in &machine.steps {
@@ -76,12 +76,12 @@ fn admit_early(system: &mut System, role: Role, core: &CoreRegs)
 }
 
 /// The system of the admitted cores: of the boot core, and then of each early core.
-pub fn system(machine: &Machine, overrides: &Overrides, roles: &[Role]) -> System
+pub fn system(machine: &Machine, roles: &[Role]) -> System
     requires boot { machine.now.boot < vec_len machine.now.cores }
-    requires roles { roles.now ≡ map (role_of (reading_of machine.now)) (range_with_len 0 (vec_len machine.now.cores)) }
-    ensures { result ≡ system_words overrides.now (admitted_cores (reading_of machine.now)) }
+    requires roles { roles.now ≡ map (role_of (reading_of machine.now [])) (range_with_len 0 (vec_len machine.now.cores)) }
+    ensures { result ≡ system_words machine.now.overrides (admitted_cores (reading_of machine.now [])) }
 {
-    let mut system = System::new(&machine.cores[machine.boot as usize], overrides);
+    let mut system = System::new(&machine.cores[machine.boot as usize], &machine.overrides);
     for (core, registers) in machine.cores.iter().enumerate() {
         admit_early(&mut system, roles[core], registers);
     }

@@ -1,20 +1,17 @@
 //! The program's one call.
 
-ghost use Rattle.std.specs.Prelude.{◌≡◌, ◌≢◌, ℕ, ◌<◌, ◌≤◌, IfOk, IfErr, vec_len, ◌⊎◌, ◌↔◌, List, [], Some, None, IsSome, IfSome, true, false, map, string_bytes};
+ghost use Rattle.std.specs.Prelude.{◌≡◌, ◌≢◌, ℕ, ◌<◌, ◌≤◌, IfOk, IfErr, vec_len, ◌⊎◌, ◌↔◌, List, Some, None, IsSome, IfSome, true, false, map, string_bytes};
 ghost use Rattle.armcaps_io.specs.Causes.{Rose};
 ghost use Rattle.armcaps_io.specs.Streams.{Keeps};
-ghost use Rattle.armcaps_text.specs.Document.{reading_of};
-ghost use Rattle.armcaps_top.specs.Document.{document};
+ghost use Rattle.armcaps_top.specs.Document.{document, IsMachineOf};
 ghost use Rattle.armcaps_top.specs.Ending.{status_of};
 ghost use Rattle.armcaps_top.specs.Refusals.{IsRefusalOf, Refuses};
-ghost use Rattle.armcaps_top.specs.Report.{report_of};
 ghost use Rattle.armcaps_top.specs.Run.{is_form, output_of, Writes, WritesPrefix, IsRefused, IsReadWhole};
 
 use crate::ending::Ending;
 use crate::refusal::{INPUT_LIMIT, Refusal};
 use crate::report::report;
 use armcaps_io::{InFault, Sink, Source, read_to_limit, write_whole};
-use armcaps_tables::Overrides;
 use armcaps_text::{Machine, TextRefused, laws};
 use arrayvec::ArrayString;
 use std::alloc::{AllocError, Global};
@@ -32,7 +29,7 @@ fn is_form(words: &[String]) -> bool
 /// The machine of an input that is a document, or else how the run ends.
 #[tactic(auto, unfolding(crate::specs::Document::document))]
 fn machine_of(alloc: Global, bytes: &[u8]) -> Result<Machine, Ending>
-    ensures read { IfOk result (λ machine. document bytes.now ≡ Some (reading_of machine)) }
+    ensures read { IfOk result (λ machine. IsMachineOf bytes.now machine) }
     ensures boot { IfOk result (λ machine. machine.boot < vec_len machine.cores) }
     ensures refused { IfErr result (λ ending. Refuses ending bytes.now) }
 {
@@ -46,13 +43,16 @@ fn machine_of(alloc: Global, bytes: &[u8]) -> Result<Machine, Ending>
     }
 }
 
-/// The report of a machine without overrides.
-#[tactic(auto, using(crate::proofs::Agreeing::report_without))]
-fn plain_report(alloc: Global, machine: &Machine) -> Result<String, AllocError>
+/// The report of a machine, which an input reads as.
+#[tactic(auto, using(crate::proofs::Overrides::report_under))]
+fn machine_report(alloc: Global, machine: &Machine) -> Result<String, AllocError>
     requires { machine.now.boot < vec_len machine.now.cores }
-    ensures { IfOk result (λ text. string_bytes text ≡ report_of [] (reading_of machine.now)) }
+    ensures { IfOk result (λ text. (input : List ℕ) → IsMachineOf input machine.now → output_of input ≡ Some (string_bytes text)) }
 {
-    report(alloc, machine, &Overrides::none())
+    match report(alloc, machine) {
+        Ok(text) => Ok(text),
+        Err(error) => Err(error),
+    }
 }
 
 /// What is refused is no document.
@@ -86,7 +86,7 @@ fn report_input<S: Source, O: Sink>(alloc: Global, input: &mut S, out: &mut O) -
         Ok(machine) => machine,
         Err(ending) => return ending,
     };
-    let Ok(text) = plain_report(alloc, &machine) else {
+    let Ok(text) = machine_report(alloc, &machine) else {
         return Ending::Memory;
     };
     match write_whole(out, text.as_bytes()) {

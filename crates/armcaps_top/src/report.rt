@@ -1,6 +1,6 @@
 //! The report of a machine.
 
-ghost use Rattle.std.specs.Prelude.{◌≡◌, ◌<◌, ◌++◌, ℕ, IfOk, OnOk, length, map, string_bytes, vec_len};
+ghost use Rattle.std.specs.Prelude.{[], ◌≡◌, ◌<◌, ◌++◌, ℕ, IfOk, OnOk, length, map, string_bytes, vec_len};
 ghost use Rattle.std.specs.List.{flat_map, range_with_len};
 ghost use Rattle.armcaps_enc.specs.Registers.{tracked};
 ghost use Rattle.armcaps_tables.specs.Core.{core_word};
@@ -143,20 +143,20 @@ fn push_cores(text: &mut String, roles: &[Role]) -> Result<(), AllocError>
     Ok(())
 }
 
-/// The report of a machine under overrides.
+/// The report of a machine.
 #[tactic(auto, unfolding(crate::specs::Report::report_of, armcaps_sanit::specs::System::system_words), using(crate::proofs::Agreeing::core_word_map))]
-pub fn report(alloc: Global, machine: &Machine, overrides: &Overrides) -> Result<String, AllocError>
+pub fn report(alloc: Global, machine: &Machine) -> Result<String, AllocError>
     requires { machine.now.boot < vec_len machine.now.cores }
-    ensures { IfOk result (λ text. string_bytes text ≡ report_of overrides.now (reading_of machine.now)) }
+    ensures { IfOk result (λ text. string_bytes text ≡ report_of machine.now.overrides (reading_of machine.now [])) }
 {
     let roles = roles(alloc, machine)?;
-    let system = system(machine, overrides, &roles);
+    let system = system(machine, &roles);
     let mut text = String::new(alloc);
     text.push_str("armcaps report 1\n")?;
     push_cores(&mut text, &roles)?;
     push_registers(&mut text, &system)?;
     let boot = &machine.cores[machine.boot as usize];
-    push_all_notes(&mut text, boot, overrides)?;
+    push_all_notes(&mut text, boot, &machine.overrides)?;
     text.push_str("end\n")?;
     Ok(text)
 }

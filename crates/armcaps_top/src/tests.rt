@@ -40,6 +40,11 @@ fn run_on(alloc: Global, line: &str, input: &[u8]) -> Result<Ran, Fail> {
     })
 }
 
+/// Whether a text stands in an output.
+fn has(out: &[u8], text: &str) -> bool {
+    text.is_empty() || out.windows(text.len()).any(|part| part == text.as_bytes())
+}
+
 /// Words and inputs, with the status and what `out` and `err` get.
 #[test]
 fn answers(rt: HostRuntime) -> Result<(), Fail> {
@@ -108,12 +113,88 @@ fn system_words(rt: HostRuntime) -> Result<(), Fail> {
         let ran = run_on(alloc, "report", input.as_bytes())?;
         assert_eq!(rt; ran.status, 0, "{register}: {values:?}");
         let line = format!(in alloc; "reg {register} 0x{word:016x}\n")?;
-        let found = ran
+        assert_eq!(rt; has(&ran.out, &line), word != 0, "{register}: {values:?}");
+    }
+    Ok(())
+}
+
+/// What the overrides of a command line come to on one core: the core's registers, the command line,
+/// two lines of the report, and how many notes it has.
+#[test]
+fn overrides(rt: HostRuntime) -> Result<(), Fail> {
+    let alloc = rt.alloc();
+    let aes = "id_aa64isar0_el1 0x11120";
+    let vectors = "id_aa64pfr0_el1 0x100000000\nid_aa64pfr1_el1 0x1000000";
+    let forced_word = "reg id_aa64isar0_el1 0x0000000000011110\n";
+    let own_word = "reg id_aa64isar0_el1 0x0000000000011120\n";
+    let cases = [
+        (
+            aes,
+            "id_aa64isar0.aes=0x11",
+            forced_word,
+            "note id_aa64isar0.aes forced\n",
+            1,
+        ),
+        (
+            aes,
+            "id_aa64isar0.aes=1 id_aa64isar0.aes=2",
+            own_word,
+            "note id_aa64isar0.aes already\n",
+            1,
+        ),
+        (aes, "-- arm64.nosve", own_word, "", 0),
+        (aes, "id_aa64isar0.aes=", own_word, "", 0),
+        (
+            vectors,
+            "quiet arm64.nosve",
+            "reg id_aa64pfr0_el1 0x0000000000000000\n",
+            "note id_aa64pfr0.sve forced\n",
+            19,
+        ),
+        (
+            vectors,
+            "quiet arm64.nosve",
+            "reg id_aa64pfr1_el1 0x0000000000000000\n",
+            "note id_aa64pfr1.sme forced\n",
+            19,
+        ),
+        (
+            vectors,
+            "quiet arm64.nosve",
+            "",
+            "note id_aa64smfr0.fa64 already\nend\n",
+            19,
+        ),
+        (
+            vectors,
+            "id_aa64pfr0.sve=2",
+            "reg id_aa64pfr0_el1 0x0000000100000000\n",
+            "note id_aa64pfr0.sve ignored\n",
+            1,
+        ),
+        (
+            "id_aa64pfr1_el1 0x20",
+            "id_aa64pfr1.ssbs=1",
+            "reg id_aa64pfr1_el1 0x0000000000000010\n",
+            "note id_aa64pfr1.ssbs forced\n",
+            1,
+        ),
+    ];
+    for (registers, cmdline, word, note, notes) in cases {
+        let input = format!(in alloc;
+            "armcaps 1\ncore 0\n{registers}\nboot 0\ncmdline {cmdline}\nfinalise\nend\n"
+        )?;
+        let ran = run_on(alloc, "report", input.as_bytes())?;
+        assert_eq!(rt; ran.status, 0, "{registers}: {cmdline}");
+        assert!(rt; has(&ran.out, word), "{cmdline}: {word}");
+        assert!(rt; has(&ran.out, note), "{cmdline}: {note}");
+        let lines = ran
             .out
             .as_slice()
-            .windows(line.len())
-            .any(|part| part == line.as_bytes());
-        assert_eq!(rt; found, word != 0, "{register}: {values:?}");
+            .windows(5)
+            .filter(|part| *part == b"note ".as_slice())
+            .count();
+        assert_eq!(rt; lines, notes, "{cmdline}");
     }
     Ok(())
 }

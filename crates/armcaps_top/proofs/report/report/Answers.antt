@@ -14,11 +14,11 @@ returns c =
     let boot : c.index-boot.result.now ≡ get_or c.args.machine.now.cores.items c.args.machine.now.boot [] =
     sym (get_or_from_slice_get c.args.machine.now.cores.items c.args.machine.now.boot c.index-boot.result.now []
     (slice_get_read c.args.machine.now.cores.items _ c.args.machine.now.boot c.index-boot.result.now refl inside c.index-boot.ensures)) in
-    let roles = roles_whole (reading_of c.args.machine.now) c.deref-2.result.now (vec_len c.args.machine.now.cores) c.args.machine.now.cores.ok.0 (c.deref-2.ensures.value ∙ c.in_ok-roles.ensures) in
-    report_built c.args.overrides.now (reading_of c.args.machine.now) c.system-system.result _ _ _ _ _ record {
+    let roles = roles_whole (reading_of c.args.machine.now []) c.deref-2.result.now (vec_len c.args.machine.now.cores) c.args.machine.now.cores.ok.0 (c.deref-2.ensures.value ∙ c.in_ok-roles.ensures) in
+    report_built c.args.machine.now.overrides (reading_of c.args.machine.now []) c.system-system.result _ _ _ _ _ record {
       system_is = c.system-system.ensures;
       head_is = c.in_ok-push_str.ensures.bytes ∙ ap (λ (xs : List ℕ). xs ++ codes "armcaps report 1\n") c.new-text.ensures.bytes;
-      cores_is = rw roles.1 at (c.in_ok-push_cores.ensures (role_of (reading_of c.args.machine.now)) roles.0);
+      cores_is = rw roles.1 at (c.in_ok-push_cores.ensures (role_of (reading_of c.args.machine.now [])) roles.0);
       words_is = c.in_ok-push_registers.ensures;
       notes_is = rw boot at c.in_ok-push_all_notes.ensures;
       text_is = c.in_ok-push_str-2.ensures.bytes;
