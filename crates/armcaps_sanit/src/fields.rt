@@ -7,6 +7,7 @@ ghost use Rattle.armcaps_tables.specs.Rows.{rows_of};
 ghost use Rattle.armcaps_sanit.specs.Fields.{field_in, word_of, ValuesFit};
 ghost use Rattle.armcaps_sanit.specs.Kept.{kept, AreKept};
 ghost use Rattle.armcaps_sanit.specs.System.{system_field};
+ghost use Rattle.armcaps_sanit.specs.Users.{shown};
 
 use crate::field::local;
 use armcaps_enc::SysReg;
@@ -36,6 +37,17 @@ pub(crate) fn merged_fields(reg: SysReg, fields: &[i64; 16], word: u64) -> [i64;
     merged
 }
 
+/// What users see of a register's values.
+pub(crate) fn shown_fields(reg: SysReg, fields: &[i64; 16]) -> [i64; 16]
+    ensures values { AreKept result (rows_of reg) (λ index row. shown row (kept fields.now index row)) }
+{
+    let mut shown = [0; 16];
+    for index in 0..count(reg) {
+        shown[index] = shown_field(reg, index, fields[index]);
+    }
+    shown
+}
+
 /// The word that a register's values make.
 pub(crate) fn word_of_fields(reg: SysReg, fields: &[i64; 16]) -> u64
     requires { ValuesFit (kept fields.now) (rows_of reg) }
@@ -55,4 +67,13 @@ fn merged_field(reg: SysReg, index: usize, value: i64, word: u64) -> i64
 {
     let field = row(reg, index).unwrap();
     merge(field.rule, field.safe, value, field.span.value(word))
+}
+
+// What users see of one field's value.
+fn shown_field(reg: SysReg, index: usize, value: i64) -> i64
+    requires { index < length (rows_of reg) }
+    ensures { option_map (λ row. shown row value) (slice_get (rows_of reg) index) ≡ Some result }
+{
+    let field = row(reg, index).unwrap();
+    if field.visible { value } else { field.safe }
 }

@@ -1,4 +1,5 @@
-//! The words that all admitted cores keep in common, and what overrides make of one core's fields.
+//! The words that all admitted cores keep in common, what users see of them, where a core differs from the boot core, and
+//! what overrides make of one core's fields.
 #![tactic(auto)]
 
 mod field;
@@ -8,7 +9,9 @@ mod noted;
 mod system;
 #[cfg(test)]
 mod tests;
+mod varying;
 
 pub use field::{local, note};
 pub use noted::Note;
 pub use system::System;
+pub use varying::varies;

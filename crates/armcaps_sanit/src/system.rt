@@ -6,8 +6,9 @@ ghost use Rattle.armcaps_tables.specs.Overriding.{AllFit};
 ghost use Rattle.armcaps_tables.specs.Rows.{rows_of};
 ghost use Rattle.armcaps_sanit.specs.Fields.{field_in, IsOutside};
 ghost use Rattle.armcaps_sanit.specs.System.{merged_words, system_field, system_word, system_words};
+ghost use Rattle.armcaps_sanit.specs.Users.{shown_word, user_word};
 
-use crate::fields::{first_fields, merged_fields, word_of_fields};
+use crate::fields::{first_fields, merged_fields, shown_fields, word_of_fields};
 use armcaps_enc::SysReg;
 use armcaps_tables::{CoreRegs, Overrides};
 use std::marker::Model;
@@ -64,6 +65,18 @@ impl System {
         ensures none { rows_of reg ≡ [] → result ≡ 0 }
     {
         word_of_fields(reg, &self.fields[reg.place()])
+    }
+
+    /// A register's word as users see it: each visible field as in the register's word, each hidden field with its safe
+    /// value, and 0 in all other bits (Linux, `emulate_sys_reg` and `arm64_ftr_reg_user_value`).
+    pub fn user_word(&self, reg: SysReg) -> u64
+        ensures word { result ≡ shown_word reg (core_word self.now reg) }
+        ensures stands { (overrides : List (Option ℤ)) (cores : List Core) → AllFit overrides → 0 < length cores
+            → self.now ≡ system_words overrides cores
+            → result ≡ user_word overrides cores reg }
+        ensures others { (shift width : ℕ) → shift + width ≤ 64 → IsOutside (rows_of reg) shift width → unsigned_field shift width result ≡ 0 }
+    {
+        word_of_fields(reg, &shown_fields(reg, &self.fields[reg.place()]))
     }
 
     /// A field's value. `index` is its place in the register's table.

@@ -74,3 +74,38 @@ fn overrides(rt: HostRuntime) {
     assert!(rt; aes_note(2) == (Note::Already, 0x11120));
     assert!(rt; aes_note(3) == (Note::Ignored, 0x11120));
 }
+
+// A register's word as users see it, of one core.
+fn user_word_of(reg: SysReg, word: u64) -> u64 {
+    System::new(&core(reg, word), &Overrides::none()).user_word(reg)
+}
+
+#[test]
+fn user_words(rt: HostRuntime) {
+    // hidden fields have their safe values
+    assert_eq!(rt; user_word_of(SysReg::IdAa64Pfr0El1, 0), 0x11);
+    assert_eq!(rt; user_word_of(SysReg::IdAa64Pfr0El1, 0x2222), 0x11);
+    assert_eq!(rt; user_word_of(SysReg::IdAa64Dfr0El1, 0), 6);
+    assert_eq!(rt; user_word_of(SysReg::IdAa64Isar0El1, 0x11120), 0x11120);
+    assert_eq!(rt; user_word_of(SysReg::IdAa64Mmfr0El1, 0), 0xff000000);
+    assert_eq!(rt; user_word_of(SysReg::CtrEl0, 0), 0);
+    assert_eq!(rt; user_word_of(SysReg::MidrEl1, 0x410fd034), 0);
+}
+
+// Whether a core differs from the boot core in a register.
+fn differs(reg: SysReg, boot: u64, word: u64) -> bool {
+    varies(&core(reg, boot), &core(reg, word), reg)
+}
+
+#[test]
+fn varying(rt: HostRuntime) {
+    let isar0 = SysReg::IdAa64Isar0El1;
+    assert!(rt; differs(isar0, 0x100010211120, 0x11120));
+    assert!(rt; differs(isar0, 0x11120, 0x100010211120));
+    assert!(rt; !differs(isar0, 0x11120, 0x11120));
+    let ctr = SysReg::CtrEl0;
+    assert!(rt; differs(ctr, 0x84448004, 0x84438004));
+    // the instruction cache's policy may differ
+    assert!(rt; !differs(ctr, 0x8444c004, 0x84448004));
+    assert!(rt; !differs(SysReg::MidrEl1, 0x410fd034, 0x410fd092));
+}
