@@ -1,0 +1,11 @@
+//! The errata of processors that are worked around, and which of them a core has.
+#![tactic(auto)]
+
+mod erratum_row;
+mod table;
+
+pub use erratum_row::Erratum;
+pub use table::{affected_by, errata_hold, erratum};
+
+#[cfg(test)]
+mod tests;
