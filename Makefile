@@ -1,4 +1,4 @@
-# The program, the gate, and an installed copy of the program; all the work is done by `rt`.
+# The program, the gate, and an installed copy of the program and its manual page; all the work is done by `rt`.
 PREFIX ?= /usr/local
 PROGRAM := crates/armcaps/out/armcaps
 
@@ -10,5 +10,6 @@ check:
 
 install: all
 	install -D $(PROGRAM) $(DESTDIR)$(PREFIX)/bin/armcaps
+	install -D -m 644 docs/armcaps.1 $(DESTDIR)$(PREFIX)/share/man/man1/armcaps.1
 
 .PHONY: all check install

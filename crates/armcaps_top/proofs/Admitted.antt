@@ -20,7 +20,7 @@ same_over_range f g a (suc n) same =
     rw (same a (omega arith) (omega arith))
     (ap (λ xs. cons_option (g a) xs) (same_over_range f g (a + 1) n (λ k low high. same k (omega arith) (omega arith))))
 
-abbrev chosen : (ℕ → Bool) → List Core → ℕ → Option Core
+abbrev pub chosen : (ℕ → Bool) → List Core → ℕ → Option Core
 chosen test cores = λ core. if test core then slice_get cores core else None
 
 pub where_same : (p q : ℕ → Bool) (cores : List Core) → ((k : ℕ) → k < length cores → p k ≡ q k) → cores_where p cores ≡ cores_where q cores
@@ -29,7 +29,7 @@ where_same p q cores same =
     (λ k low high. ap (λ (b : Bool). if b then slice_get cores k else None) (same k (omega arith)))
 
 -- the cores before a place, the core at it, and those after it
-split_at : (test : ℕ → Bool) (cores : List Core) (i : ℕ) → i < length cores →
+pub split_at : (test : ℕ → Bool) (cores : List Core) (i : ℕ) → i < length cores →
     cores_where test cores ≡
     filter_map (chosen test cores) (range_with_len 0 i) ++
     cons_option (chosen test cores i) (filter_map (chosen test cores) (range_with_len (i + 1) (length cores - (i + 1))))

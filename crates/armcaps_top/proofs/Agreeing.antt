@@ -14,9 +14,10 @@ use Rattle.armcaps_tables.specs.Rows.{rows_of}
 use Rattle.armcaps_rule.specs.Rule.{forced_of}
 use Rattle.armcaps_sanit.specs.Fields.{word_from}
 use Rattle.armcaps_sanit.specs.System.{field_values, system_field, system_word}
+use Rattle.armcaps_sanit.specs.Users.{shown, user_field, user_word}
 use Rattle.armcaps_text.specs.Document.{Reading}
 use Rattle.armcaps_top.specs.Admission.{admitted_cores}
-use Rattle.armcaps_top.specs.Report.{note_line_at, note_lines, register_line, report_of}
+use Rattle.armcaps_top.specs.Report.{note_line_at, note_lines, register_line, report_of, user_line}
 
 -- at each field the two have the same
 pub record Agree (one other : List (Option ℤ)) : Type 0 where
@@ -47,6 +48,13 @@ system_word-same one other cores register agree =
     (λ index row inside. let start : 0 + index ≡ index = omega arith in
     rw start (ap (λ (override : Option ℤ). forced_of row.rule row.safe override (field_values cores register row)) (agree.each register index inside)))
 
+user_word-same : (one other : List (Option ℤ)) (cores : List Core) (register : SysReg) → Agree one other → user_word one cores register ≡ user_word other cores register
+unfolding user_word
+user_word-same one other cores register agree =
+    word_from-same (user_field one cores register) (user_field other cores register) 0 (rows_of register)
+    (λ index row inside. let start : 0 + index ≡ index = omega arith in
+    rw start (ap (λ (override : Option ℤ). shown row (forced_of row.rule row.safe override (field_values cores register row))) (agree.each register index inside)))
+
 note_line_at-same : (one other : List (Option ℤ)) (boot : Core) (register : SysReg) (index : ℕ) → index < length (rows_of register) → Agree one other →
     note_line_at one boot register index ≡ note_line_at other boot register index
 unfolding note_line_at
@@ -74,6 +82,9 @@ report_of-same one other reading agree =
       flat_map-same (λ register. register_line register (system_word one (admitted_cores reading) register))
           (λ register. register_line register (system_word other (admitted_cores reading) register)) tracked
           (λ register. ap (register_line register) (system_word-same one other (admitted_cores reading) register agree)),
+      flat_map-same (λ register. user_line register (user_word one (admitted_cores reading) register))
+          (λ register. user_line register (user_word other (admitted_cores reading) register)) tracked
+          (λ register. ap (user_line register) (user_word-same one other (admitted_cores reading) register agree)),
       flat_map-same (note_lines one (slice_index_or reading.cores reading.boot [])) (note_lines other (slice_index_or reading.cores reading.boot [])) tracked
           (λ register. note_lines-same one other (slice_index_or reading.cores reading.boot []) register agree),
     ) refl

@@ -5,9 +5,11 @@ use Rattle.std.specs.List.{flat_map, range_with_len}
 use Rattle.armcaps_enc.specs.Registers.{tracked}
 use Rattle.armcaps_tables.specs.Core.{core_word}
 use Rattle.armcaps_sanit.specs.System.{system_word, system_words}
+use Rattle.armcaps_sanit.specs.Users.{user_word}
+use Rattle.armcaps_sanit.specs.Varying.{varies_any}
 use Rattle.armcaps_text.specs.Document.{Reading}
 use Rattle.armcaps_top.specs.Admission.{admitted_cores, role_of}
-use Rattle.armcaps_top.specs.Report.{core_line, note_lines, register_line, report_of}
+use Rattle.armcaps_top.specs.Report.{core_line, note_lines, register_line, report_of, user_line, varies_line}
 use Rattle.armcaps_top.proofs.Agreeing.{core_word_map, flat_map-same}
 
 -- the lines of the system's words
@@ -21,18 +23,20 @@ words_lines overrides reading system words =
     (λ register. ap (register_line register) (ap (λ (words : List ℕ). core_word words register) words ∙ core_word_map (system_word overrides (admitted_cores reading)) register))
 
 -- a text that each group was added to in turn
-pub record IsBuilt (overrides : List (Option ℤ)) (reading : Reading) (system head cores words notes text : List ℕ) : Type 0 where
+pub record IsBuilt (overrides : List (Option ℤ)) (reading : Reading) (system head cores words users variations notes text : List ℕ) : Type 0 where
   pub system_is : system ≡ system_words overrides (admitted_cores reading)
   pub head_is : head ≡ codes "armcaps report 1\n"
   pub cores_is : cores ≡ head ++ flat_map (λ core. core_line core (role_of reading core)) (range_with_len 0 (length reading.cores))
   pub words_is : words ≡ cores ++ flat_map (λ register. register_line register (core_word system register)) tracked
-  pub notes_is : notes ≡ words ++ flat_map (note_lines overrides (slice_index_or reading.cores reading.boot [])) tracked
+  pub users_is : users ≡ words ++ flat_map (λ register. user_line register (user_word overrides (admitted_cores reading) register)) tracked
+  pub variations_is : variations ≡ users ++ flat_map (λ register. varies_line register (varies_any (slice_index_or reading.cores reading.boot []) (admitted_cores reading) register)) tracked
+  pub notes_is : notes ≡ variations ++ flat_map (note_lines overrides (slice_index_or reading.cores reading.boot [])) tracked
   pub text_is : text ≡ notes ++ codes "end\n"
 
-pub report_built : (overrides : List (Option ℤ)) (reading : Reading) (system head cores words notes text : List ℕ) →
-    IsBuilt overrides reading system head cores words notes text → text ≡ report_of overrides reading
+pub report_built : (overrides : List (Option ℤ)) (reading : Reading) (system head cores words users variations notes text : List ℕ) →
+    IsBuilt overrides reading system head cores words users variations notes text → text ≡ report_of overrides reading
 unfolding report_of
-report_built overrides reading system head cores words notes text built =
+report_built overrides reading system head cores words users variations notes text built =
     let registers_are : words ≡ cores ++ flat_map (λ register. register_line register (system_word overrides (admitted_cores reading) register)) tracked =
     built.words_is ∙ ap (λ (xs : List ℕ). cores ++ xs) (words_lines overrides reading system built.system_is) in
-    built.text_is ∙ rw (built.notes_is, registers_are, built.cores_is, built.head_is) refl
+    built.text_is ∙ rw (built.notes_is, built.variations_is, built.users_is, registers_are, built.cores_is, built.head_is) refl

@@ -6,3 +6,4 @@ pub mod Agreeing
 pub mod Joining
 pub mod Refused
 pub mod Overrides
+pub mod Searching

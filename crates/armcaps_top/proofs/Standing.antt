@@ -79,6 +79,12 @@ pub stands_all : (reading : Reading) (overrides : List (Option ℤ)) (system : L
 stands_all reading overrides system stands =
     stands.words ∙ ap (system_words overrides) (where_same (below reading (length reading.cores)) (λ core. is_admitted (role_of reading core)) reading.cores (λ k inside. all_below reading (length reading.cores) k inside))
 
+pub some_admitted : (reading : Reading) (overrides : List (Option ℤ)) (system : List ℕ) → Stands reading overrides system (length reading.cores) →
+    0 < length (admitted_cores reading)
+some_admitted reading overrides system stands =
+    subst (λ (xs : List Core). 0 < length xs)
+    (where_same (below reading (length reading.cores)) (λ core. is_admitted (role_of reading core)) reading.cores (λ k inside. all_below reading (length reading.cores) k inside)) stands.some
+
 -- one core more: it is taken in where it is early, and else changes nothing
 pub stands_step : (reading : Reading) (overrides : List (Option ℤ)) (old new : List ℕ) (place : ℕ) (core : Core) → place < length reading.cores →
     slice_get reading.cores place ≡ Some core → AllFit overrides →

@@ -1,5 +1,5 @@
 -- The report of a machine. Its format is this project's own.
-use Rattle.std.specs.Prelude.{ℕ, ℤ, ◌^◌, ◌-◌, false, List, [], ◌∷◌, ◌++◌, length, take, codes, Option, slice_get, slice_index_or}
+use Rattle.std.specs.Prelude.{ℕ, ℤ, ◌^◌, ◌-◌, Bool, false, if◌then◌else◌, List, [], ◌∷◌, ◌++◌, length, take, codes, Option, slice_get, slice_index_or}
 use Rattle.std.specs.Option.{option_map_or}
 use Rattle.std.specs.List.{flat_map, range_with_len}
 use Rattle.std.specs.Fmt.{decimal, digits, padded_integral, format_spec}
@@ -14,6 +14,8 @@ use Rattle.armcaps_sanit.specs.declared.noted.Note.TheVariants as note
 use Rattle.armcaps_sanit.specs.Fields.{field_in}
 use Rattle.armcaps_sanit.specs.Notes.{note_of}
 use Rattle.armcaps_sanit.specs.System.{system_word}
+use Rattle.armcaps_sanit.specs.Users.{user_word}
+use Rattle.armcaps_sanit.specs.Varying.{varies_any}
 use Rattle.armcaps_text.specs.Document.{Reading}
 use Rattle.armcaps_top.specs.Admission.{admitted_cores, role_of}
 use Rattle.armcaps_top.specs.declared.admission.Role.{Role}
@@ -36,6 +38,14 @@ word_text word = codes "0x" ++ padded_integral (format_spec 32 0 4 16 (2 ^ 64 - 
 -- the line of a system register
 abbrev pub register_line : SysReg → ℕ → List ℕ
 register_line register word = codes "reg " ++ name_of register ++ codes " " ++ word_text word ++ 10 ∷ []
+
+-- the line of a register as users see it
+abbrev pub user_line : SysReg → ℕ → List ℕ
+user_line register word = codes "user " ++ name_of register ++ codes " " ++ word_text word ++ 10 ∷ []
+
+-- the line of a register, where it varies
+abbrev pub varies_line : SysReg → Bool → List ℕ
+varies_line register varies = if varies then codes "varies " ++ name_of register ++ 10 ∷ [] else []
 
 -- a register's name without its exception level, as `id_aa64pfr0`
 unfoldable pub short_name : SysReg → List ℕ
@@ -64,5 +74,7 @@ report_of overrides reading =
     codes "armcaps report 1\n" ++
     flat_map (λ core. core_line core (role_of reading core)) (range_with_len 0 (length reading.cores)) ++
     flat_map (λ register. register_line register (system_word overrides (admitted_cores reading) register)) tracked ++
+    flat_map (λ register. user_line register (user_word overrides (admitted_cores reading) register)) tracked ++
+    flat_map (λ register. varies_line register (varies_any (slice_index_or reading.cores reading.boot []) (admitted_cores reading) register)) tracked ++
     flat_map (note_lines overrides (slice_index_or reading.cores reading.boot [])) tracked ++
     codes "end\n"

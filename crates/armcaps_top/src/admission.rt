@@ -25,6 +25,7 @@ pub enum Role {
 }
 
 impl Role {
+    ghost use Rattle.armcaps_top.specs.Admission.{is_admitted};
     ghost use Rattle.armcaps_top.specs.Report.{role_name};
 
     /// The word of the report.
@@ -35,6 +36,16 @@ impl Role {
             Role::Boot => "boot",
             Role::Early => "early",
             Role::Absent => "absent",
+        }
+    }
+
+    /// Whether the core takes part in the system.
+    pub fn is_admitted(self) -> bool
+        ensures { result ≡ is_admitted self }
+    {
+        match self {
+            Role::Boot | Role::Early => true,
+            Role::Absent => false,
         }
     }
 }
@@ -79,7 +90,9 @@ fn admit_early(system: &mut System, role: Role, core: &CoreRegs)
 pub fn system(machine: &Machine, roles: &[Role]) -> System
     requires boot { machine.now.boot < vec_len machine.now.cores }
     requires roles { roles.now ≡ map (role_of (reading_of machine.now [])) (range_with_len 0 (vec_len machine.now.cores)) }
-    ensures { result ≡ system_words machine.now.overrides (admitted_cores (reading_of machine.now [])) }
+    ensures words { result ≡ system_words machine.now.overrides (admitted_cores (reading_of machine.now [])) }
+    ensures fit { AllFit machine.now.overrides }
+    ensures some { 0 < length (admitted_cores (reading_of machine.now [])) }
 {
     let mut system = System::new(&machine.cores[machine.boot as usize], &machine.overrides);
     for (core, registers) in machine.cores.iter().enumerate() {

@@ -8,5 +8,6 @@ mod refusal;
 mod report;
 #[cfg(test)]
 mod tests;
+mod varying;
 
 pub use program::run;

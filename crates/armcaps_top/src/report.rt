@@ -1,18 +1,22 @@
 //! The report of a machine.
 
-ghost use Rattle.std.specs.Prelude.{[], ◌≡◌, ◌<◌, ◌++◌, ℕ, IfOk, OnOk, length, map, string_bytes, vec_len};
+ghost use Rattle.std.specs.Prelude.{[], ◌≡◌, ◌<◌, ◌++◌, ℕ, ℤ, List, Option, IfOk, OnOk, length, map, slice_index_or, string_bytes, vec_len};
 ghost use Rattle.std.specs.List.{flat_map, range_with_len};
 ghost use Rattle.armcaps_enc.specs.Registers.{tracked};
-ghost use Rattle.armcaps_tables.specs.Core.{core_word};
+ghost use Rattle.armcaps_tables.specs.Core.{Core, core_word};
+ghost use Rattle.armcaps_tables.specs.Overriding.{AllFit};
 ghost use Rattle.armcaps_sanit.specs.System.{system_words};
+ghost use Rattle.armcaps_sanit.specs.Users.{user_word};
+ghost use Rattle.armcaps_sanit.specs.Varying.{varies_any};
 ghost use Rattle.armcaps_tables.specs.Row.{Row};
 ghost use Rattle.armcaps_tables.specs.RowOf.{row_of};
 ghost use Rattle.armcaps_tables.specs.Rows.{rows_of};
 ghost use Rattle.armcaps_text.specs.Document.{reading_of};
-ghost use Rattle.armcaps_top.specs.Admission.{role_of};
-ghost use Rattle.armcaps_top.specs.Report.{core_line, register_line, short_name, note_line, note_line_at, note_lines, report_of};
+ghost use Rattle.armcaps_top.specs.Admission.{admitted_cores, role_of};
+ghost use Rattle.armcaps_top.specs.Report.{core_line, register_line, user_line, varies_line, short_name, note_line, note_line_at, note_lines, report_of};
 
 use crate::admission::{Role, roles, system};
+use crate::varying::varies_somewhere;
 use armcaps_enc::SysReg;
 use armcaps_sanit::{Note, System, note};
 use armcaps_tables::{CoreRegs, FieldRow, Overrides, count, row};
@@ -35,6 +39,27 @@ fn push_register(text: &mut String, register: SysReg, word: u64) -> Result<(), A
 {
     let name = register.name();
     write!(text, "reg {name} 0x{word:016x}\n")
+}
+
+/// Adds the line of a register as users see it.
+#[tactic(auto, unfolding(crate::specs::Report::word_text))]
+fn push_user_word(text: &mut String, register: SysReg, word: u64) -> Result<(), AllocError>
+    ensures { OnOk result (string_bytes text.new ≡ string_bytes text.old ++ user_line register word) }
+{
+    let name = register.name();
+    write!(text, "user {name} 0x{word:016x}\n")
+}
+
+/// Adds a register's line, where it varies.
+fn push_variation(text: &mut String, register: SysReg, varies: bool) -> Result<(), AllocError>
+    ensures { OnOk result (string_bytes text.new ≡ string_bytes text.old ++ varies_line register varies) }
+{
+    let name = register.name();
+    if varies {
+        write!(text, "varies {name}\n")
+    } else {
+        Ok(())
+    }
 }
 
 /// A register's name without its exception level.
@@ -132,6 +157,30 @@ fn push_registers(text: &mut String, system: &System) -> Result<(), AllocError>
     Ok(())
 }
 
+/// Adds the lines of the registers as users see them.
+fn push_user_words(text: &mut String, system: &System) -> Result<(), AllocError>
+    ensures { OnOk result ((overrides : List (Option ℤ)) (cores : List Core) → AllFit overrides → 0 < length cores → system.now ≡ system_words overrides cores →
+        string_bytes text.new ≡ string_bytes text.old ++ flat_map (λ register. user_line register (user_word overrides cores register)) tracked) }
+{
+    for register in SysReg::TRACKED {
+        push_user_word(text, register, system.user_word(register))?;
+    }
+    Ok(())
+}
+
+/// Adds the lines of the registers that vary among the admitted cores.
+fn push_variations(text: &mut String, machine: &Machine, roles: &[Role]) -> Result<(), AllocError>
+    requires boot { machine.now.boot < vec_len machine.now.cores }
+    requires roles { roles.now ≡ map (role_of (reading_of machine.now [])) (range_with_len 0 (vec_len machine.now.cores)) }
+    ensures { OnOk result (string_bytes text.new ≡ string_bytes text.old ++
+        flat_map (λ register. varies_line register (varies_any (slice_index_or machine.now.cores.items machine.now.boot []) (admitted_cores (reading_of machine.now [])) register)) tracked) }
+{
+    for register in SysReg::TRACKED {
+        push_variation(text, register, varies_somewhere(machine, roles, register))?;
+    }
+    Ok(())
+}
+
 /// Adds the lines of the cores.
 fn push_cores(text: &mut String, roles: &[Role]) -> Result<(), AllocError>
     ensures { OnOk result ((role : ℕ → Role) → roles.now ≡ map role (range_with_len 0 (length roles.now)) →
@@ -155,6 +204,8 @@ pub fn report(alloc: Global, machine: &Machine) -> Result<String, AllocError>
     text.push_str("armcaps report 1\n")?;
     push_cores(&mut text, &roles)?;
     push_registers(&mut text, &system)?;
+    push_user_words(&mut text, &system)?;
+    push_variations(&mut text, machine, &roles)?;
     let boot = &machine.cores[machine.boot as usize];
     push_all_notes(&mut text, boot, &machine.overrides)?;
     text.push_str("end\n")?;

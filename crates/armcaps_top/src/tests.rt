@@ -7,7 +7,7 @@ use std::test::Fail;
 const ONE_CORE: &str = "armcaps 1\ncore 0\nid_aa64isar0_el1 0x11120\nboot 0\nfinalise\nend\n";
 
 const ONE_CORE_REPORT: &str =
-    "armcaps report 1\ncore 0 boot\nreg id_aa64pfr0_el1 0x0000000000000000\nreg id_aa64pfr1_el1 0x0000000000000000\nreg id_aa64zfr0_el1 0x0000000000000000\nreg id_aa64smfr0_el1 0x0000000000000000\nreg id_aa64dfr0_el1 0x0000000000000000\nreg id_aa64isar0_el1 0x0000000000011120\nreg id_aa64isar1_el1 0x0000000000000000\nreg id_aa64isar2_el1 0x0000000000000000\nreg id_aa64mmfr0_el1 0x0000000000000000\nreg id_aa64mmfr1_el1 0x0000000000000000\nreg id_aa64mmfr2_el1 0x0000000000000000\nreg id_aa64mmfr3_el1 0x0000000000000000\nreg ctr_el0 0x0000000000000000\nreg dczid_el0 0x0000000000000000\nend\n";
+    "armcaps report 1\ncore 0 boot\nreg id_aa64pfr0_el1 0x0000000000000000\nreg id_aa64pfr1_el1 0x0000000000000000\nreg id_aa64zfr0_el1 0x0000000000000000\nreg id_aa64smfr0_el1 0x0000000000000000\nreg id_aa64dfr0_el1 0x0000000000000000\nreg id_aa64isar0_el1 0x0000000000011120\nreg id_aa64isar1_el1 0x0000000000000000\nreg id_aa64isar2_el1 0x0000000000000000\nreg id_aa64mmfr0_el1 0x0000000000000000\nreg id_aa64mmfr1_el1 0x0000000000000000\nreg id_aa64mmfr2_el1 0x0000000000000000\nreg id_aa64mmfr3_el1 0x0000000000000000\nreg ctr_el0 0x0000000000000000\nreg dczid_el0 0x0000000000000000\nuser id_aa64pfr0_el1 0x0000000000000011\nuser id_aa64pfr1_el1 0x0000000000000000\nuser id_aa64zfr0_el1 0x0000000000000000\nuser id_aa64smfr0_el1 0x0000000000000000\nuser id_aa64dfr0_el1 0x0000000000000006\nuser id_aa64isar0_el1 0x0000000000011120\nuser id_aa64isar1_el1 0x0000000000000000\nuser id_aa64isar2_el1 0x0000000000000000\nuser id_aa64mmfr0_el1 0x00000000ff000000\nuser id_aa64mmfr1_el1 0x0000000000000000\nuser id_aa64mmfr2_el1 0x0000000000000000\nuser id_aa64mmfr3_el1 0x0000000000000000\nuser ctr_el0 0x0000000000000000\nuser dczid_el0 0x0000000000000000\nend\n";
 
 const USAGE: &str = "armcaps: usage: armcaps report\n";
 
@@ -114,6 +114,59 @@ fn system_words(rt: HostRuntime) -> Result<(), Fail> {
         assert_eq!(rt; ran.status, 0, "{register}: {values:?}");
         let line = format!(in alloc; "reg {register} 0x{word:016x}\n")?;
         assert_eq!(rt; has(&ran.out, &line), word != 0, "{register}: {values:?}");
+    }
+    Ok(())
+}
+
+/// Lines of a register on which an early core may differ from the boot core: what users see, and
+/// whether it varies.
+#[test]
+fn users_and_variation(rt: HostRuntime) -> Result<(), Fail> {
+    let alloc = rt.alloc();
+    let cases: [(&str, u64, u64, &str, usize); 4] = [
+        (
+            "id_aa64isar0_el1",
+            0x0000100010211120,
+            0x11120,
+            "user id_aa64isar0_el1 0x0000000000011120\n",
+            1,
+        ),
+        (
+            "id_aa64isar0_el1",
+            0x11120,
+            0x0000100010211120,
+            "varies id_aa64isar0_el1\nend\n",
+            1,
+        ),
+        (
+            "ctr_el0",
+            0x8444c004,
+            0x84448004,
+            "user ctr_el0 0x0000000084448004\n",
+            0,
+        ),
+        (
+            "id_aa64mmfr0_el1",
+            0x1122,
+            0x1122,
+            "user id_aa64mmfr0_el1 0x00000000ff000000\n",
+            0,
+        ),
+    ];
+    for (register, boot, early, line, varying) in cases {
+        let input = format!(in alloc;
+            "armcaps 1\ncore 0\n{register} {boot}\ncore 1\n{register} {early}\nboot 0\nonline 1\nfinalise\nend\n"
+        )?;
+        let ran = run_on(alloc, "report", input.as_bytes())?;
+        assert_eq!(rt; ran.status, 0, "{register}: {boot} {early}");
+        assert!(rt; has(&ran.out, line), "{register}: {line}");
+        let lines = ran
+            .out
+            .as_slice()
+            .windows(7)
+            .filter(|part| *part == b"varies ".as_slice())
+            .count();
+        assert_eq!(rt; lines, varying, "{register}: {boot} {early}");
     }
     Ok(())
 }

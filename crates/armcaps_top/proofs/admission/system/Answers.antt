@@ -3,7 +3,7 @@ use Rattle.std.proofs.lemmas.Option.{slice_get_read}
 use Rattle.std.proofs.lemmas.List.FromFn.{length-map-range_with_len, get_or-map-range_with_len}
 use Rattle.armcaps_text.specs.Document.{reading_of}
 use Rattle.armcaps_top.specs.Admission.{role_of}
-use Rattle.armcaps_top.proofs.Standing.{Stands, stands_first, stands_all, stands_step}
+use Rattle.armcaps_top.proofs.Standing.{Stands, some_admitted, stands_first, stands_all, stands_step}
 use Rattle.armcaps_top.specs.declared.admission.Role.TheVariants.{Boot}
 use Rattle.armcaps_top.proofs.admission.system.Goals as goal
 
@@ -27,8 +27,14 @@ loop-core-preserved c =
     (rw items at (slice_get_read _ _ _ _ refl c.loop-core-test.true c.registers-item.is)) c.new-system.ensures.fit
     (λ early. c.admit_early.ensures.early (role ∙ early)) (λ apart. c.admit_early.ensures.other (λ same. apart (sym role ∙ same))) c.loop-core.invariant
 
-pub returns : goal.returns
-returns c =
+pub returns-clause-words : goal.returns-clause-words
+returns-clause-words c =
     let all : c.loop-core.core ≡ length c.args.machine.now.cores.items = omega (arith, ap length c.deref-registers-items.ensures.value, c.loop-core-test.false) in
     stands_all (reading_of c.args.machine.now []) c.args.machine.now.overrides c.loop-core.system
+    (subst (λ (place : ℕ). Stands (reading_of c.args.machine.now []) c.args.machine.now.overrides c.loop-core.system place) all c.loop-core.invariant)
+
+pub returns-clause-some : goal.returns-clause-some
+returns-clause-some c =
+    let all : c.loop-core.core ≡ length c.args.machine.now.cores.items = omega (arith, ap length c.deref-registers-items.ensures.value, c.loop-core-test.false) in
+    some_admitted (reading_of c.args.machine.now []) c.args.machine.now.overrides c.loop-core.system
     (subst (λ (place : ℕ). Stands (reading_of c.args.machine.now []) c.args.machine.now.overrides c.loop-core.system place) all c.loop-core.invariant)
