@@ -179,6 +179,12 @@ fn takes_sixty_four_cores(rt: HostRuntime) -> Result<(), Fail> {
         Some((66, TextKind::TooMany))
     );
     let mut text = cores(rt.alloc(), 64)?;
+    text.push_str("# the last\n core 0x40\nbanana\n")?;
+    assert_eq!(rt;
+        refusal(rt.alloc(), text.as_bytes()),
+        Some((67, TextKind::TooMany))
+    );
+    let mut text = cores(rt.alloc(), 64)?;
     text.push_str("core 70\n")?;
     assert_eq!(rt;
         refusal(rt.alloc(), text.as_bytes()),
@@ -202,6 +208,11 @@ fn takes_a_long_command_line(rt: HostRuntime) -> Result<(), Fail> {
     let text = commanded(rt.alloc(), 2048)?;
     assert_eq!(rt; refusal(rt.alloc(), text.as_bytes()), None);
     let text = commanded(rt.alloc(), 2049)?;
+    assert_eq!(rt;
+        refusal(rt.alloc(), text.as_bytes()),
+        Some((4, TextKind::CmdlineTooLong))
+    );
+    let text = commanded(rt.alloc(), 5000)?;
     assert_eq!(rt;
         refusal(rt.alloc(), text.as_bytes()),
         Some((4, TextKind::CmdlineTooLong))
@@ -244,6 +255,19 @@ fn takes_a_mebibyte(rt: HostRuntime) -> Result<(), Fail> {
     assert_eq!(rt;
         refusal(rt.alloc(), text.as_slice()),
         Some((1_048_568, TextKind::TextTooLong))
+    );
+    Ok(())
+}
+
+#[test]
+fn refuses_a_mebibyte_of_comment(rt: HostRuntime) -> Result<(), Fail> {
+    let mut text = b"armcaps 1\n".as_slice().to_vec(rt.alloc())?;
+    for _ in 10..1_048_577 {
+        text.push(b'#')?;
+    }
+    assert_eq!(rt;
+        refusal(rt.alloc(), text.as_slice()),
+        Some((2, TextKind::TextTooLong))
     );
     Ok(())
 }
