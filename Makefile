@@ -11,5 +11,6 @@ check:
 install: all
 	install -D $(PROGRAM) $(DESTDIR)$(PREFIX)/bin/armcaps
 	install -D -m 644 docs/armcaps.1 $(DESTDIR)$(PREFIX)/share/man/man1/armcaps.1
+	install -D -m 644 -t $(DESTDIR)$(PREFIX)/share/doc/armcaps docs/MACHINE-TEXT.md docs/OVERRIDES.md docs/REPORT.md
 
 .PHONY: all check install

@@ -2,12 +2,32 @@
 //! this file hands it the command line and the standard streams.
 #![tactic(auto)]
 
-use armcaps_io::{RealSink, RealSource};
+ghost use Rattle.std.specs.Prelude.{◌≡◌, map, string_bytes, false, ◌↔◌};
+ghost use Rattle.std.specs.Process.{exit_status};
+ghost use Rattle.armcaps_top.specs.Run.{is_form, Writes, IsReadWhole, IsRefused};
+
+use armcaps_io::{RealSink, RealSource, Sink, Source};
 use armcaps_top::run;
+use std::alloc::Global;
 use std::env;
 use std::process::ExitCode;
 
-/// Ends with the status of `run`, and with 1 where the command line can't be read as text.
+// Runs the program, and hands on its status.
+fn exit<S: Source, O: Sink, E: Sink>(
+    alloc: Global,
+    words: &[String],
+    input: &mut S,
+    out: &mut O,
+    err: &mut E,
+) -> ExitCode
+    ensures done { exit_status result ≡ 0 → Writes (S.left input.old) (O.held out.old) (O.held out.new) × IsReadWhole (S.left input.old) (S.left input.new) }
+    ensures usage { (exit_status result ≡ 2) ↔ (is_form (map string_bytes words.now) ≡ false) }
+    ensures refused { exit_status result ≡ 3 → IsRefused (S.left input.old) }
+{
+    ExitCode::from(run(alloc, words, input, out, err))
+}
+
+/// Ends with the status of `run`, and with 1 where the command line is no text or there is no memory for it.
 fn main(rt: HostRuntime) -> ExitCode {
     let Ok(arguments) = env::args(&rt) else {
         return ExitCode::FAILURE;
@@ -18,5 +38,5 @@ fn main(rt: HostRuntime) -> ExitCode {
     let mut input = RealSource::new(rt.stdin());
     let mut out = RealSink::new(rt.stdout());
     let mut err = RealSink::new(rt.stderr());
-    ExitCode::from(run(rt.alloc(), &words, &mut input, &mut out, &mut err))
+    exit(rt.alloc(), &words, &mut input, &mut out, &mut err)
 }

@@ -41,7 +41,7 @@ row cap ranges fixes = record { cap = cap; ranges = ranges; fixes = fixes }
 abbrev pub errata_count : ℕ
 errata_count = 10
 
--- the errata, each with the name of its capability
+-- the errata in the order of their capabilities' numbers; behind each its capability's name
 unfoldable pub errata_rows : List Row
 errata_rows =
     row 43 (versions cortex_a53 0x00 0x04 ∷ []) (fixed 0x04 0x100 ∷ [])  -- WORKAROUND_843419

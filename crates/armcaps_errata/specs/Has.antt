@@ -7,7 +7,7 @@ use Rattle.armcaps_tables.specs.Core.{Core, core_word}
 use Rattle.armcaps_errata.specs.Row.{Row}
 use Rattle.armcaps_errata.specs.Errata.{errata_rows}
 
--- a word's low 32 bits, which alone tell of a processor (Arm ARM DDI 0487: bits 63 to 32 of MIDR_EL1 are reserved)
+-- a word's low 32 bits, which alone tell of a processor (Linux, arch/arm64/kernel/cpu_errata.c: MIDR and REVIDR are u32)
 abbrev pub low_half : ℕ → ℕ
 low_half word = word % 2 ^ 32
 

@@ -2,7 +2,7 @@
 use Rattle.std.specs.Prelude.{◌≡◌, ℕ, ◌≤◌, List, [], ◌++◌, length, ⊤, Option, None, Some}
 pub use Rattle.std.specs.Io.KnownBytes.{Keeps, Appends, Consumes, IsAtEnd}
 
--- a sink got a first part of the bytes, and not the rest
+-- a sink got a first part of the bytes, which may be all of them or none
 pub record AppendsPrefix (old new : Option (List ℕ)) (piece : List ℕ) : Type 0 where
   pub part : List ℕ
   pub rest : List ℕ

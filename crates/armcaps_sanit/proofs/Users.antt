@@ -7,11 +7,11 @@ use Rattle.armcaps_tables.specs.Rows.{rows_of}
 use Rattle.armcaps_tables.specs.Core.{Core, core_word}
 use Rattle.armcaps_tables.specs.Overriding.{AllFit}
 use Rattle.armcaps_tables.proofs.Places.{row_safe}
-use Rattle.armcaps_sanit.specs.Fields.{field_in, value_fits, word_of, ValuesFit}
-use Rattle.armcaps_sanit.specs.System.{system_words}
+use Rattle.armcaps_sanit.specs.Fields.{field_in, value_fits, word_of, IsMadeOf, ValuesFit}
+use Rattle.armcaps_sanit.specs.System.{system_field, system_words}
 use Rattle.armcaps_sanit.specs.Kept.{kept, values_at, kept_words, AreKept, FieldsFit}
 use Rattle.armcaps_sanit.specs.Users.{shown, user_field, user_word, shown_word}
-use Rattle.armcaps_sanit.proofs.Systems.{kept_word, system_field_at}
+use Rattle.armcaps_sanit.proofs.Systems.{kept_word, system_field_at, system_field_fits}
 use Rattle.armcaps_sanit.proofs.Words.{made_of, word_of-same}
 
 shown_passes : (test : ℤ → Bool) (visible : Bool) (value safe : ℤ) → IsTrue (test value) → IsTrue (test safe) → IsTrue (test (cond visible value safe))
@@ -50,3 +50,11 @@ unfolding shown_word user_word
 user_word_at overrides cores words register fit some stands =
     word_of-same (λ index row. shown row (field_in row (core_word words register))) (user_field overrides cores register) (rows_of register)
     (λ index row at. ap (shown row) (system_field_at overrides cores words register index row fit some stands at))
+
+-- that word has what users see of each field
+pub user_word_made : (overrides : List (Option ℤ)) (cores : List Core) (register : SysReg) → AllFit overrides → 0 < length cores
+    → IsMadeOf (user_field overrides cores register) (rows_of register) (user_word overrides cores register)
+unfolding user_word
+user_word_made overrides cores register fit some =
+    made_of register (user_field overrides cores register)
+    (shown_fits register (system_field overrides cores register) (system_field_fits overrides fit cores some register))

@@ -8,7 +8,7 @@ use Rattle.armcaps_enc.specs.Registers.{place_of}
 use Rattle.armcaps_tables.specs.Core.{Core}
 use Rattle.armcaps_tables.specs.Rows.{id_aa64pfr0_rows, id_aa64dfr0_rows, id_aa64isar0_rows, id_aa64mmfr0_rows, ctr_rows}
 use Rattle.armcaps_sanit.specs.Users.{shown_word, user_word}
-use Rattle.armcaps_sanit.specs.Varying.{core_varies, varies_any}
+use Rattle.armcaps_sanit.specs.Varying.{core_varies}
 
 -- a core with this word in the register, and 0 in the others
 abbrev core_with : SysReg → ℕ → Core
@@ -37,7 +37,7 @@ unfolding user_word forced_of fold_of id_aa64isar0_rows
 visible_isar0 = refl
 
 -- 0x100010211120 and 0x11120 differ, in either order
-isar0_varies : varies_any (core_with IdAa64Isar0El1 17592456646944) (core_with IdAa64Isar0El1 17592456646944 ∷ core_with IdAa64Isar0El1 69920 ∷ []) IdAa64Isar0El1 ≡ true
+isar0_varies : core_varies (core_with IdAa64Isar0El1 17592456646944) (core_with IdAa64Isar0El1 69920) IdAa64Isar0El1 ≡ true
 unfolding id_aa64isar0_rows
 isar0_varies = refl
 

@@ -1,5 +1,5 @@
 -- The system registers: for each field the one value that all admitted cores keep, and for each register the word of
--- its fields (Linux, arch/arm64/kernel/cpufeature.c, `struct arm64_ftr_reg`, `sys_val`).
+-- its fields (Linux, arch/arm64/include/asm/cpufeature.h, `struct arm64_ftr_reg`, `sys_val`).
 use Rattle.std.specs.Prelude.{ℕ, ℤ, List, Option, map}
 use Rattle.armcaps_rule.specs.Rule.{merged, forced_of}
 use Rattle.armcaps_enc.specs.declared.register.SysReg.{SysReg}

@@ -1,5 +1,5 @@
 -- What users see of the system registers: a field that is hidden from them has its safe value, whatever the cores have
--- (Linux, arch/arm64/kernel/cpufeature.c, `struct arm64_ftr_reg`, `user_mask` and `user_val`).
+-- (Linux, arch/arm64/include/asm/cpufeature.h, `struct arm64_ftr_reg`, `user_mask` and `user_val`).
 use Rattle.std.specs.Prelude.{ℕ, ℤ, if◌then◌else◌, List, Option}
 use Rattle.armcaps_enc.specs.declared.register.SysReg.{SysReg}
 use Rattle.armcaps_tables.specs.Row.{Row}

@@ -6,7 +6,7 @@ use Rattle.armcaps_enc.specs.Registers.{tracked}
 use Rattle.armcaps_tables.specs.Core.{core_word}
 use Rattle.armcaps_sanit.specs.System.{system_word, system_words}
 use Rattle.armcaps_sanit.specs.Users.{user_word}
-use Rattle.armcaps_sanit.specs.Varying.{varies_any}
+use Rattle.armcaps_top.specs.Report.{varies_any}
 use Rattle.armcaps_text.specs.Document.{Reading}
 use Rattle.armcaps_top.specs.Admission.{admitted_cores, role_of}
 use Rattle.armcaps_top.specs.Report.{core_line, note_lines, register_line, report_of, user_line, varies_line}

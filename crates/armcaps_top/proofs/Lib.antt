@@ -7,3 +7,4 @@ pub mod Joining
 pub mod Refused
 pub mod Overrides
 pub mod Searching
+pub mod Hexadecimal

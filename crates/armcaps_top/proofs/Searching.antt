@@ -7,7 +7,8 @@ use Rattle.std.proofs.lemmas.Option.{get_or_from_slice_get, slice_get_read}
 use Rattle.std.proofs.lemmas.List.Folds.{list_any-append}
 use Rattle.armcaps_enc.specs.declared.register.SysReg.{SysReg}
 use Rattle.armcaps_tables.specs.Core.{Core}
-use Rattle.armcaps_sanit.specs.Varying.{core_varies, varies_any}
+use Rattle.armcaps_sanit.specs.Varying.{core_varies}
+use Rattle.armcaps_top.specs.Report.{varies_any}
 use Rattle.armcaps_text.specs.Document.{Reading}
 use Rattle.armcaps_top.specs.Admission.{admitted_cores, cores_where, is_admitted, role_of}
 use Rattle.armcaps_top.proofs.Admitted.{chosen, split_at}

@@ -1,7 +1,10 @@
--- Why an input is no document. The limits are this project's own.
-use Rattle.std.specs.Prelude.{◌≡◌, ℕ, ◌+◌, ◌<◌, List, length}
+-- Why an input is no document, and how that is said. The limits and texts are this project's own.
+use Rattle.std.specs.Prelude.{◌≡◌, ℕ, ◌+◌, ◌<◌, ◌++◌, List, codes, length}
+use Rattle.std.specs.Fmt.{decimal}
 use Rattle.armcaps_text.specs.Document.{Reading, Reads, outcome}
 use Rattle.armcaps_text.specs.Document as text
+use Rattle.armcaps_text.specs.Refusal.{refusal_text}
+use Rattle.armcaps_text.specs.declared.kind.TextRefused.TheVariants as TextRefused
 use Rattle.armcaps_top.specs.declared.ending.Ending.{Ending}
 use Rattle.armcaps_top.specs.declared.ending.Ending.TheVariants.{Done, Usage, Refused, ReadFault, WriteFault, Memory}
 use Rattle.armcaps_top.specs.declared.refusal.Refusal.{Refusal}
@@ -20,6 +23,12 @@ abbrev pub IsRefusalOf : Refusal → List ℕ → Type 0
 IsRefusalOf (Line line kind) input = outcome input ≡ text.Refuses line kind
 IsRefusalOf TooLong input = 135_266_304 < length input
 IsRefusalOf (Trailing extra) input = IsFollowed extra input
+
+-- the text of a refusal, as `line 7: kind 13 turn`
+unfoldable pub refused_text : Refusal → List ℕ
+refused_text (Line line kind) = refusal_text (TextRefused.Line line kind)
+refused_text TooLong = codes "input longer than " ++ decimal 135_266_304 ++ codes " bytes"
+refused_text (Trailing extra) = codes "trailing bytes: " ++ decimal extra
 
 -- the ending is a refusal, that of the input, or memory ran out
 abbrev pub Refuses : Ending → List ℕ → Type 0

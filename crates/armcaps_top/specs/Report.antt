@@ -1,8 +1,8 @@
 -- The report of a machine. Its format is this project's own.
-use Rattle.std.specs.Prelude.{ℕ, ℤ, ◌^◌, ◌-◌, Bool, false, if◌then◌else◌, List, [], ◌∷◌, ◌++◌, length, take, codes, Option, slice_get, slice_index_or}
+use Rattle.std.specs.Prelude.{ℕ, ℤ, ◌-◌, Bool, false, if◌then◌else◌, List, [], ◌∷◌, ◌++◌, length, replicate, take, codes, Option, slice_get, slice_index_or}
 use Rattle.std.specs.Option.{option_map_or}
-use Rattle.std.specs.List.{flat_map, range_with_len}
-use Rattle.std.specs.Fmt.{decimal, digits, padded_integral, format_spec}
+use Rattle.std.specs.List.{flat_map, list_any, range_with_len}
+use Rattle.std.specs.Fmt.{decimal, digits}
 use Rattle.armcaps_enc.specs.declared.register.SysReg.{SysReg}
 use Rattle.armcaps_enc.specs.Registers.{name_of, tracked}
 use Rattle.armcaps_tables.specs.Core.{Core, core_word}
@@ -15,7 +15,7 @@ use Rattle.armcaps_sanit.specs.Fields.{field_in}
 use Rattle.armcaps_sanit.specs.Notes.{note_of}
 use Rattle.armcaps_sanit.specs.System.{system_word}
 use Rattle.armcaps_sanit.specs.Users.{user_word}
-use Rattle.armcaps_sanit.specs.Varying.{varies_any}
+use Rattle.armcaps_sanit.specs.Varying.{core_varies}
 use Rattle.armcaps_text.specs.Document.{Reading}
 use Rattle.armcaps_top.specs.Admission.{admitted_cores, role_of}
 use Rattle.armcaps_top.specs.declared.admission.Role.{Role}
@@ -33,7 +33,7 @@ core_line core role = codes "core " ++ decimal core ++ codes " " ++ role_name ro
 
 -- a word: 0x and 16 lower-case hexadecimal digits
 unfoldable pub word_text : ℕ → List ℕ
-word_text word = codes "0x" ++ padded_integral (format_spec 32 0 4 16 (2 ^ 64 - 1)) false [] (digits 16 false word)
+word_text word = codes "0x" ++ replicate (16 - length (digits 16 false word)) 48 ++ digits 16 false word
 
 -- the line of a system register
 abbrev pub register_line : SysReg → ℕ → List ℕ
@@ -46,6 +46,10 @@ user_line register word = codes "user " ++ name_of register ++ codes " " ++ word
 -- the line of a register, where it varies
 abbrev pub varies_line : SysReg → Bool → List ℕ
 varies_line register varies = if varies then codes "varies " ++ name_of register ++ 10 ∷ [] else []
+
+-- whether some of these cores differs from the boot core in a strict field of the register
+abbrev pub varies_any : Core → List Core → SysReg → Bool
+varies_any boot cores register = list_any (λ core. core_varies boot core register) cores
 
 -- a register's name without its exception level, as `id_aa64pfr0`
 unfoldable pub short_name : SysReg → List ℕ

@@ -21,13 +21,13 @@ output_of bytes = option_map (λ reading. report_of (overrides_of reading.cmdlin
 abbrev pub Writes : Option (List ℕ) → Option (List ℕ) → Option (List ℕ) → Type 0
 Writes input old new = IfSome input (λ bytes. IsSomeAnd (output_of bytes) (λ output. Appends old new output))
 
--- the same with a first part of the output, and not the rest
+-- the same with a first part of the output
 abbrev pub WritesPrefix : Option (List ℕ) → Option (List ℕ) → Option (List ℕ) → Type 0
 WritesPrefix input old new = IfSome input (λ bytes. IsSomeAnd (output_of bytes) (λ output. AppendsPrefix old new output))
 
 -- the input, where its bytes are told, is no document
 abbrev pub IsRefused : Option (List ℕ) → Type 0
-IsRefused input = IfSome input (λ bytes. output_of bytes ≡ None)
+IsRefused input = IfSome input (λ bytes. document bytes ≡ None)
 
 -- all of the input was read, where its bytes are told
 abbrev pub IsReadWhole : Option (List ℕ) → Option (List ℕ) → Type 0

@@ -35,6 +35,12 @@ impl Ending {
 }
 
 impl fmt::Display for Ending {
+    ghost use Rattle.std.specs.Prelude.{Some};
+    ghost use Rattle.armcaps_top.specs.Ending.{ending_text};
+
+    ghost output = { λ ending. Some (ending_text ending) };
+
+    #[tactic(auto, unfolding(crate::specs::Ending::ending_text))]
     fn fmt<W: fmt::Write>(&self, f: &mut fmt::Formatter<W>) -> fmt::Result {
         match self {
             Ending::Done => Ok(()),

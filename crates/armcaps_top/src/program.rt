@@ -145,7 +145,7 @@ pub fn run<S: Source, O: Sink, E: Sink>(
     ensures statuses { (result ≡ 0) ⊎ ((2 ≤ result) × (result ≤ 6)) }
 
     // A form, a document and no failure give the whole output, or there was no memory.
-    ensures complete { (bytes : List ℕ) → is_form (map string_bytes words.now) ≡ true → S.left input.old ≡ Some bytes → IsSome (output_of bytes) →
+    ensures complete { (bytes : List ℕ) → is_form (map string_bytes words.now) ≡ true → S.left input.old ≡ Some bytes → IsSome (document bytes) →
         (Rose (S.faults input.old) (S.faults input.new) → ⊥) → (Rose (O.faults out.old) (O.faults out.new) → ⊥) → (result ≡ 0) ⊎ (result ≡ 6) }
 {
     let ending = if is_form(words) {

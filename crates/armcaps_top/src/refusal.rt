@@ -3,7 +3,7 @@
 use armcaps_text::{TextKind, TextRefused};
 use std::fmt;
 
-/// The most bytes that an input may have: a text of 1,048,576 bytes and an image of 134,217,728.
+/// The most bytes that an input may have: a text of 1,048,576 bytes and, in a later release, a kernel image of 134,217,728.
 pub const INPUT_LIMIT: usize = 135_266_304;
 
 /// Why an input is no document.
@@ -18,6 +18,12 @@ pub enum Refusal {
 }
 
 impl fmt::Display for Refusal {
+    ghost use Rattle.std.specs.Prelude.{Some};
+    ghost use Rattle.armcaps_top.specs.Refusals.{refused_text};
+
+    ghost output = { λ refusal. Some (refused_text refusal) };
+
+    #[tactic(auto, unfolding(crate::specs::Refusals::refused_text))]
     fn fmt<W: fmt::Write>(&self, f: &mut fmt::Formatter<W>) -> fmt::Result {
         match self {
             Refusal::Line { line, kind } => {

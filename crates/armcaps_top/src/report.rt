@@ -7,7 +7,7 @@ ghost use Rattle.armcaps_tables.specs.Core.{Core, core_word};
 ghost use Rattle.armcaps_tables.specs.Overriding.{AllFit};
 ghost use Rattle.armcaps_sanit.specs.System.{system_words};
 ghost use Rattle.armcaps_sanit.specs.Users.{user_word};
-ghost use Rattle.armcaps_sanit.specs.Varying.{varies_any};
+ghost use Rattle.armcaps_top.specs.Report.{varies_any};
 ghost use Rattle.armcaps_tables.specs.Row.{Row};
 ghost use Rattle.armcaps_tables.specs.RowOf.{row_of};
 ghost use Rattle.armcaps_tables.specs.Rows.{rows_of};
@@ -33,7 +33,7 @@ fn push_core(text: &mut String, core: usize, role: Role) -> Result<(), AllocErro
 }
 
 /// Adds a system register's line.
-#[tactic(auto, unfolding(crate::specs::Report::word_text))]
+#[tactic(auto, using(crate::proofs::Hexadecimal::word_written))]
 fn push_register(text: &mut String, register: SysReg, word: u64) -> Result<(), AllocError>
     ensures { OnOk result (string_bytes text.new ≡ string_bytes text.old ++ register_line register word) }
 {
@@ -42,7 +42,7 @@ fn push_register(text: &mut String, register: SysReg, word: u64) -> Result<(), A
 }
 
 /// Adds the line of a register as users see it.
-#[tactic(auto, unfolding(crate::specs::Report::word_text))]
+#[tactic(auto, using(crate::proofs::Hexadecimal::word_written))]
 fn push_user_word(text: &mut String, register: SysReg, word: u64) -> Result<(), AllocError>
     ensures { OnOk result (string_bytes text.new ≡ string_bytes text.old ++ user_line register word) }
 {

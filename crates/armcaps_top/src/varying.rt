@@ -2,7 +2,8 @@
 
 ghost use Rattle.std.specs.Prelude.{[], ◌≡◌, ◌<◌, ◌&&◌, map, slice_index_or, vec_len};
 ghost use Rattle.std.specs.List.{range_with_len};
-ghost use Rattle.armcaps_sanit.specs.Varying.{core_varies, varies_any};
+ghost use Rattle.armcaps_sanit.specs.Varying.{core_varies};
+ghost use Rattle.armcaps_top.specs.Report.{varies_any};
 ghost use Rattle.armcaps_text.specs.Document.{reading_of};
 ghost use Rattle.armcaps_top.specs.Admission.{admitted_cores, is_admitted, role_of};
 

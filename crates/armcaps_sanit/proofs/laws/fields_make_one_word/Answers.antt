@@ -1,5 +1,6 @@
 use Rattle.armcaps_sanit.proofs.Words.{made_of, only_one}
 use Rattle.armcaps_sanit.proofs.Systems.{system_word_made}
+use Rattle.armcaps_sanit.proofs.Users.{user_word_made}
 use Rattle.armcaps_sanit.proofs.laws.fields_make_one_word.Goals as goal
 
 pub returns-clause-made : goal.returns-clause-made
@@ -10,3 +11,6 @@ returns-clause-only c = only_one c.args.reg
 
 pub returns-clause-system : goal.returns-clause-system
 returns-clause-system c = λ overrides cores fit some. system_word_made overrides cores c.args.reg fit some
+
+pub returns-clause-users : goal.returns-clause-users
+returns-clause-users c = λ overrides cores fit some. user_word_made overrides cores c.args.reg fit some

@@ -1,7 +1,7 @@
 use Rattle.std.proofs.Common.{[], ◌≡◌, ◌<◌, true, false, length, get_or, arith, sym, ◌∙◌, ap, subst, vec_len, refl, ℕ}
 use Rattle.std.proofs.lemmas.Option.{slice_get_read}
 use Rattle.std.proofs.lemmas.List.FromFn.{length-map-range_with_len, get_or-map-range_with_len}
-use Rattle.armcaps_sanit.specs.Varying.{varies_any}
+use Rattle.armcaps_top.specs.Report.{varies_any}
 use Rattle.armcaps_tables.specs.Core.{Core}
 use Rattle.armcaps_text.specs.Document.{reading_of}
 use Rattle.armcaps_top.specs.Admission.{admitted_cores, role_of}
