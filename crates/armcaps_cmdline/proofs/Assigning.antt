@@ -10,42 +10,15 @@ use Rattle.std.proofs.Math.Pow.{pow-lt}
 use Rattle.std.proofs.lemmas.List.{reverse-append}
 use Rattle.std.proofs.lemmas.List.Folds.{find-append, find_at}
 use Rattle.armcaps_enc.specs.declared.register.SysReg.{SysReg}
-use Rattle.armcaps_enc.specs.declared.register.SysReg.TheVariants.{MidrEl1, MpidrEl1, RevidrEl1, IdAa64Pfr0El1, IdAa64Pfr1El1, IdAa64Zfr0El1, IdAa64Smfr0El1, IdAa64Dfr0El1, IdAa64Isar0El1, IdAa64Isar1El1, IdAa64Isar2El1, IdAa64Mmfr0El1, IdAa64Mmfr1El1, IdAa64Mmfr2El1, IdAa64Mmfr3El1, CtrEl0, DczidEl0}
-use Rattle.armcaps_enc.specs.Registers.{place_of, registers}
+use Rattle.armcaps_enc.specs.declared.register.SysReg.TheVariants.{IdAa64Pfr0El1, IdAa64Pfr1El1, IdAa64Zfr0El1, IdAa64Smfr0El1}
+use Rattle.armcaps_enc.specs.Registers.{place_of}
 use Rattle.armcaps_tables.specs.Facts.{has_name}
 use Rattle.armcaps_tables.specs.Row.{Row}
 use Rattle.armcaps_tables.specs.Rows.{rows_of}
 use Rattle.armcaps_tables.specs.Overriding.{override_of, cut_value}
+use Rattle.armcaps_tables.proofs.Positions.{one_register}
 use Rattle.armcaps_cmdline.specs.Assignments.{Assignment, Setting, assigned, zeros_for, is_field, dependents, is_cut_to_zero, assignments_to}
 use Rattle.armcaps_cmdline.specs.Overrides.{is_to, last_number, given_override, Assigns}
-
--- a register stands at its place
-place_own : (register : SysReg) → slice_get registers (place_of register) ≡ Some register
-place_own MidrEl1 = refl
-place_own MpidrEl1 = refl
-place_own RevidrEl1 = refl
-place_own IdAa64Pfr0El1 = refl
-place_own IdAa64Pfr1El1 = refl
-place_own IdAa64Zfr0El1 = refl
-place_own IdAa64Smfr0El1 = refl
-place_own IdAa64Dfr0El1 = refl
-place_own IdAa64Isar0El1 = refl
-place_own IdAa64Isar1El1 = refl
-place_own IdAa64Isar2El1 = refl
-place_own IdAa64Mmfr0El1 = refl
-place_own IdAa64Mmfr1El1 = refl
-place_own IdAa64Mmfr2El1 = refl
-place_own IdAa64Mmfr3El1 = refl
-place_own CtrEl0 = refl
-place_own DczidEl0 = refl
-
--- no other register stands there
-pub same_register : (one other : SysReg) → place_of one ≡ place_of other → one ≡ other
-same_register one other e =
-    let h = place_own one in
-    let k = place_own other in
-    let there : Some one ≡ Some other = sym h ∙ ap (slice_get registers) e ∙ k in
-    cc
 
 -- the last of two lists that assigns a row decides
 pub last_number-append : (xs ys : List Assignment) (register : SysReg) (index : ℕ) → last_number (xs ++ ys) register index ≡ option_or (last_number ys register index) (last_number xs register index)
@@ -118,7 +91,7 @@ assigns_one register index number old new within here others = record {
 
     by_place : (other : SysReg) (place : ℕ) → place < length (rows_of other) → (((place_of register == place_of other) ≡ true) × (place_of register ≡ place_of other)) ⊎ (((place_of register == place_of other) ≡ false) × (place_of register ≢ place_of other)) → (((index == place) ≡ true) × (index ≡ place)) ⊎ (((index == place) ≡ false) × (index ≢ place)) → Has other place
     by_place other place h (inl (t, e)) (inl (u, f)) =
-        subst (λ (r : SysReg). Has r place) (same_register register other e) (subst (λ (i : ℕ). Has register i) f (at_itself register index number old new within here))
+        subst (λ (r : SysReg). Has r place) (one_register register other e) (subst (λ (i : ℕ). Has register i) f (at_itself register index number old new within here))
     by_place other place h (inl (t, e)) (inr (u, f)) =
         elsewhere register other index place number old new (rw (t, u) refl) (others other place h (inr (λ g. f (sym g))))
     by_place other place h (inr (t, e)) k =

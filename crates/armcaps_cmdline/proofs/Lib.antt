@@ -1,4 +1,5 @@
 pub mod Digits
+pub mod Pieces
 pub mod WordLemmas
 pub mod Names
 pub mod Assigning

@@ -12,13 +12,14 @@ use Rattle.armcaps_tables.specs.Facts.{has_name}
 use Rattle.armcaps_tables.specs.Overriding.{override_of, cut_value}
 use Rattle.armcaps_tables.specs.Row.{Row}
 use Rattle.armcaps_tables.specs.Rows.{rows_of}
+use Rattle.armcaps_tables.proofs.Positions.{one_register}
 use Rattle.armcaps_cmdline.specs.declared.alias.Alias.{Alias}
 use Rattle.armcaps_cmdline.specs.declared.alias.Alias.TheVariants.{NoSve, NoSme, NoBti, NoMte, NoMops, NoPauth}
 use Rattle.armcaps_cmdline.specs.Values.{value_of}
 use Rattle.armcaps_cmdline.specs.Words.{counted_words}
 use Rattle.armcaps_cmdline.specs.Assignments.{Assignment, Setting, assigned, zeros_for, is_field, dependents, is_cut_to_zero, assignments_to, alias_settings, alias_named, register_of, register_part, field_part, value_part, setting_of, settings_of, assignments_of, assignments}
 use Rattle.armcaps_cmdline.specs.Overrides.{last_number, command_line_override}
-use Rattle.armcaps_cmdline.proofs.Assigning.{same_register, last_number-append}
+use Rattle.armcaps_cmdline.proofs.Assigning.{last_number-append}
 use Rattle.armcaps_cmdline.proofs.Reading.{Remains, remains_none}
 
 -- whether a register is an ID register
@@ -140,7 +141,7 @@ none_outside [] register index h k = refl
 none_outside (assignment ∷ list) register index h k = by_first (to_id assignment) (list_all to_id list) refl refl k (none_outside list register index h)
   where
     by_place : (b : Bool) → (place_of assignment.register == place_of register) ≡ b → to_id assignment ≡ true → last_number (assignment ∷ []) register index ≡ None
-    by_place true e t = absurd (false≢true (sym h ∙ ap is_id (sym (same_register assignment.register register (eqb-true (place_of assignment.register) (place_of register) e))) ∙ t))
+    by_place true e t = absurd (false≢true (sym h ∙ ap is_id (sym (one_register assignment.register register (eqb-true (place_of assignment.register) (place_of register) e))) ∙ t))
     by_place false e t = rw e refl
 
     by_first : (a b : Bool) → to_id assignment ≡ a → list_all to_id list ≡ b → (a && b) ≡ true → (list_all to_id list ≡ true → last_number list register index ≡ None) → last_number (assignment ∷ list) register index ≡ None

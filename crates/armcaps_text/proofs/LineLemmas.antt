@@ -5,6 +5,7 @@ use Rattle.std.proofs.lemmas.Grind.{common_steps}
 use Rattle.std.proofs.lemmas.Bool.Decides.{nat_tests}
 use Rattle.std.proofs.lemmas.List.Splits.{slice_split_first, slice_split_none, length-slice_split}
 use Rattle.std.proofs.lemmas.List.Sums.{fails_before_first}
+use Rattle.armcaps_cmdline.proofs.Pieces.{position_some}
 use Rattle.armcaps_text.specs.Lines.{all_but_last, ended_lines}
 
 abbrev is_feed : ℕ → Bool
@@ -15,10 +16,7 @@ all_but_last-cons line pieces h =
     let e : length (line ∷ pieces) - 1 ≡ suc (length pieces - 1) = omega arith in
     ap (λ (n : ℕ). take n (line ∷ pieces)) e
 
--- what a known place says
-pub position_some : (p : ℕ → Bool) (xs : List ℕ) (end : ℕ) → position p xs ≡ Some end → (position_or_len p xs < length xs) × (end ≡ position_or_len p xs)
-position_some p xs end h = grind (arith, nat_tests)
-
+-- what a place that is not there says
 pub position_none : (p : ℕ → Bool) (xs : List ℕ) → position p xs ≡ None → length xs ≤ position_or_len p xs
 position_none p xs h = grind (arith, nat_tests)
 
