@@ -2,9 +2,11 @@
 //! this file hands it the command line and the standard streams.
 #![tactic(auto)]
 
-ghost use Rattle.std.specs.Prelude.{◌≡◌, map, string_bytes, false, ◌↔◌};
+ghost use Rattle.std.specs.Prelude.{◌≡◌, ◌≢◌, ◌≤◌, ◌⊎◌, map, string_bytes, false, ◌↔◌};
 ghost use Rattle.std.specs.Process.{exit_status};
-ghost use Rattle.armcaps_top.specs.Run.{is_form, Writes, IsReadWhole, IsRefused};
+ghost use Rattle.armcaps_io.specs.Causes.{Rose};
+ghost use Rattle.armcaps_io.specs.Streams.{Keeps};
+ghost use Rattle.armcaps_top.specs.Run.{is_form, Writes, WritesPrefix, IsReadWhole, IsRefused};
 
 use armcaps_io::{RealSink, RealSource, Sink, Source};
 use armcaps_top::run;
@@ -23,6 +25,10 @@ fn exit<S: Source, O: Sink, E: Sink>(
     ensures done { exit_status result ≡ 0 → Writes (S.left input.old) (O.held out.old) (O.held out.new) × IsReadWhole (S.left input.old) (S.left input.new) }
     ensures usage { (exit_status result ≡ 2) ↔ (is_form (map string_bytes words.now) ≡ false) }
     ensures refused { exit_status result ≡ 3 → IsRefused (S.left input.old) }
+    ensures read_fault { exit_status result ≡ 4 → Rose (S.faults input.old) (S.faults input.new) }
+    ensures write_fault { exit_status result ≡ 5 → Rose (O.faults out.old) (O.faults out.new) × WritesPrefix (S.left input.old) (O.held out.old) (O.held out.new) }
+    ensures silent { exit_status result ≢ 0 → exit_status result ≢ 5 → Keeps (O.held out.old) (O.held out.new) }
+    ensures statuses { (exit_status result ≡ 0) ⊎ ((2 ≤ exit_status result) × (exit_status result ≤ 6)) }
 {
     ExitCode::from(run(alloc, words, input, out, err))
 }
