@@ -27,7 +27,8 @@ signed_field shift width word = signed_number width (unsigned_field shift width 
 abbrev pub field_value : Bool → ℕ → ℕ → ℕ → ℤ
 field_value signed shift width word = number_of signed width (unsigned_field shift width word)
 
--- whether a field of `width` bits can have a value: 0 to below 2 ^ width, or where it is signed -2 ^ (width - 1) to below 2 ^ (width - 1)
+-- whether a field of `width` bits can have a value: 0 to below 2 ^ width, or where it is signed -2 ^ (width - 1) to
+-- below 2 ^ (width - 1)
 abbrev pub field_fits : Bool → ℕ → ℤ → Bool
 field_fits true width (pos n) = nat_lt n (2 ^ (width - 1))
 field_fits true width (negsuc n) = nat_lt n (2 ^ (width - 1))
@@ -43,8 +44,15 @@ field_bits width (negsuc n) = 2 ^ width - suc n
 abbrev pub Apart : ℕ → ℕ → ℕ → ℕ → Type 0
 Apart shift width other_shift other_width = (other_shift + other_width ≤ shift) ⊎ (shift + width ≤ other_shift)
 
--- the new word is the old one with these bits in the range: they are got there, and every range apart from it is as it was
+-- every range apart from this one has the same bits in both words
+abbrev pub AgreeApart : ℕ → ℕ → ℕ → ℕ → Type 0
+AgreeApart shift width one other = (other_shift other_width : ℕ)
+    → Apart shift width other_shift other_width → other_shift + other_width ≤ 64
+    → unsigned_field other_shift other_width one ≡ unsigned_field other_shift other_width other
+
+-- the new word is the old one with these bits in the range: they are got there, and every range apart from it is as
+-- it was
 pub record IsPut (shift width number old new : ℕ) : Type 0 where
   pub got : unsigned_field shift width new ≡ number
-  pub others : (other_shift other_width : ℕ) → Apart shift width other_shift other_width → other_shift + other_width ≤ 64 → unsigned_field other_shift other_width new ≡ unsigned_field other_shift other_width old
+  pub others : AgreeApart shift width new old
   pub within : new < 2 ^ 64

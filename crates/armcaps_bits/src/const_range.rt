@@ -1,3 +1,5 @@
+//! A field whose place is known when the program is built.
+
 ghost use Rattle.std.specs.Prelude.{◌≡◌, ◌+◌, ◌-◌, ◌*◌, ◌^◌, ◌<◌, IsTrue, true};
 ghost use Rattle.armcaps_bits.specs.Field.{IsRange, IsPut, field_fits, unsigned_field, signed_field};
 

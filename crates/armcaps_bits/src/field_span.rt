@@ -1,3 +1,5 @@
+//! A field whose place a table of fields gives.
+
 ghost use Rattle.std.specs.Prelude.{◌≡◌, ◌+◌, ◌*◌, ◌^◌, ◌<◌, ◌≤◌, IsTrue};
 ghost use Rattle.armcaps_bits.specs.Field.{IsRange, IsPut, field_bits, field_fits, field_value, number_of};
 
@@ -8,7 +10,7 @@ use crate::range;
 ///
 /// Source: Arm ARM DDI 0487, "Principles of the ID scheme for fields in ID registers"; Linux,
 /// arch/arm64/include/asm/cpufeature.h, `struct arm64_ftr_bits`.
-#[derive(Clone, Copy)]
+#[derive(Clone, Copy, Debug, PartialEq, Eq)]
 pub struct Span {
     /// The place of the lowest bit.
     pub shift: u32,
@@ -46,12 +48,14 @@ impl Span {
 
     /// `word` with `value` in this field, and with every other bit as it was.
     ///
-    /// Where `word` has no bit from the field's lowest on, the answer is a sum, and it has none from the field's end on.
+    /// Where `word` has no bit from the field's lowest on, the answer is a sum, and it has none from the field's end
+    /// on.
     pub fn put(&self, word: u64, value: i64) -> u64
         requires { IsTrue (field_fits self.now.signed self.now.width value) }
         ensures got { field_value self.now.signed self.now.shift self.now.width result ≡ value }
         ensures put { IsPut self.now.shift self.now.width (field_bits self.now.width value) word result }
-        ensures sum { word < 2 ^ self.now.shift → result ≡ word + field_bits self.now.width value * 2 ^ self.now.shift }
+        ensures sum { word < 2 ^ self.now.shift
+            → result ≡ word + field_bits self.now.width value * 2 ^ self.now.shift }
         ensures below { word < 2 ^ self.now.shift → result < 2 ^ (self.now.shift + self.now.width) }
     {
         range::put(self.shift, self.width, word, self.bits(value))

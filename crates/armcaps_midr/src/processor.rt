@@ -1,8 +1,11 @@
+//! How processors are told apart: ranges of their versions, and what tells that one is mended.
+
 /// Versions of a processor's model, from `low` to `high`, both included.
 ///
 /// A version is `16*Variant + Revision`: r1p2 is 0x12.
 ///
-/// Source: Arm ARM DDI 0487, "MIDR_EL1, Main ID Register"; Linux, arch/arm64/include/asm/cputype.h, `struct midr_range`.
+/// Source: Arm ARM DDI 0487, "MIDR_EL1, Main ID Register"; Linux, arch/arm64/include/asm/cputype.h,
+/// `struct midr_range`.
 #[derive(Clone, Copy, Debug, Default, PartialEq, Eq)]
 pub struct MidrRange {
     /// The model: MIDR with Variant (bits 23 to 20) and Revision (bits 3 to 0) as 0.

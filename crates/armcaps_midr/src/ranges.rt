@@ -1,3 +1,5 @@
+//! Whether a processor is one of those that are meant.
+
 ghost use Rattle.std.specs.Prelude.{◌≡◌};
 ghost use Rattle.std.specs.List.{list_any};
 ghost use Rattle.armcaps_midr.specs.Midr.{is_affected, is_fixed, is_in_range, version_of};

@@ -1,7 +1,9 @@
+//! Processors by their MIDR and REVIDR.
+
 use super::*;
 
-// Cortex-A53 r0p4, whose REVIDR has bit 8 set where erratum 843419 is mended (Arm's Cortex-A53 Software Developers Errata
-// Notice), and a Cortex-A57 r1p2 and r1p3.
+// Cortex-A53 r0p4, whose REVIDR has bit 8 set where erratum 843419 is mended (Arm's Cortex-A53 Software Developers
+// Errata Notice), and a Cortex-A57 r1p2 and r1p3.
 #[test]
 fn processors_are_told_apart(rt: HostRuntime) {
     let old = MidrRange {

@@ -24,18 +24,15 @@ merged_lower safe m x =
       order : (m x : ℤ) → cond (int_le m x) m x ≡ int_min m x
       order m x = grind (arith, ints)
 
-merged_higher : (safe m x : ℤ) → merged Higher safe m x ≡ int_max m x
-unfolding fold_of
-merged_higher safe m x =
-    ap (λ v. unwrap_or v safe) (leading_two (λ a b. int_le b a) ge_orders m x) ∙ order m x where
-      order : (m x : ℤ) → cond (int_le x m) m x ≡ int_max m x
-      order m x = grind (arith, ints)
-
 -- the greatest of two
 higher_two : (safe m x : ℤ) → unwrap_or (greatest (m ∷ x ∷ [])) safe ≡ int_max m x
 higher_two safe m x = ap (λ v. unwrap_or v safe) (leading_two (λ a b. int_le b a) ge_orders m x) ∙ order m x where
   order : (m x : ℤ) → cond (int_le x m) m x ≡ int_max m x
   order m x = grind (arith, ints)
+
+merged_higher : (safe m x : ℤ) → merged Higher safe m x ≡ int_max m x
+unfolding fold_of
+merged_higher safe m x = higher_two safe m x
 
 merged_higher_or_zero : (safe m x : ℤ)
     → merged HigherOrZero safe m x ≡ cond (int_eq (pos 0) m || (int_eq (pos 0) x || false)) (pos 0) (int_max m x)
@@ -44,6 +41,9 @@ merged_higher_or_zero safe m x = ap (λ v. cond (int_eq (pos 0) m || (int_eq (po
 
 pub int_eq_not : (a b : ℤ) → (a ≡ b → ⊥) → int_eq a b ≡ false
 int_eq_not a b h = by_bool (int_eq a b) (λ e. absurd (h (int_eq_true a b e))) (λ e. e)
+
+pub eq_not_false : (a b : ℤ) → a ≡ b → int_eq a b ≡ false → ⊥
+eq_not_false a b e s = let t : int_eq a b ≡ true = rw e (int_eq_self b) in cc
 
 pub merge_exact_same : (rule : Rule) (safe m x : ℤ) → rule ≡ Exact → m ≡ x → merged rule safe m x ≡ m
 merge_exact_same rule safe m x r e =

@@ -7,7 +7,7 @@ use Rattle.armcaps_rule.specs.declared.rule.Rule.TheVariants.{Exact, Lower, High
 use Rattle.armcaps_rule.specs.Rule.{fold_of, merged, forced_of}
 use Rattle.armcaps_rule.proofs.Leading.{int_eq_self, int_eq_true}
 use Rattle.armcaps_rule.proofs.Insertion.{by_bool, either, fold_insert}
-use Rattle.armcaps_rule.proofs.Merging.{merged_exact, merged_same, merged_commutes, merged_picks, absorbed, int_eq_not, fold_front}
+use Rattle.armcaps_rule.proofs.Merging.{merged_exact, merged_same, merged_commutes, merged_picks, absorbed, int_eq_not, eq_not_false, fold_front}
 
 pub forced_none : (rule : Rule) (safe : ℤ) (values : List ℤ) → forced_of rule safe None values ≡ fold_of rule safe values
 unfolding forced_of
@@ -52,13 +52,10 @@ forced_insert Exact safe (Some override) before after x h = by_bool (int_eq over
     ∙ sym (merged_exact safe safe x ∙ either (int_eq safe x) safe)
     ∙ ap (λ v. merged Exact safe v x) (sym (forced_exact_safe safe override (before ++ after) e)))
     (λ s.
-    let ne : override ≡ safe → ⊥ = λ e. differs e s in
+    let ne : override ≡ safe → ⊥ = λ e. eq_not_false override safe e s in
     forced_exact_other safe override (before ++ x ∷ after) ne
     ∙ fold_insert Exact safe before after x h
     ∙ ap (λ v. merged Exact safe v x) (sym (forced_exact_other safe override (before ++ after) ne)))
-  where
-    differs : override ≡ safe → int_eq override safe ≡ false → ⊥
-    differs e s = let t : int_eq override safe ≡ true = rw e (int_eq_self safe) in cc
 forced_insert Lower safe (Some override) before after x h =
     more_insert Lower safe override before after x h (λ e. cc)
 forced_insert Higher safe (Some override) before after x h =
@@ -66,32 +63,29 @@ forced_insert Higher safe (Some override) before after x h =
 forced_insert HigherOrZero safe (Some override) before after x h =
     more_insert HigherOrZero safe override before after x h (λ e. cc)
 
-unsafe_more : (rule : Rule) (safe : ℤ) (before after : List ℤ) (x o : ℤ) → (rule ≡ Exact → ⊥) → (merged rule safe o x ≡ o → ⊥)
+ignored_more : (rule : Rule) (safe : ℤ) (before after : List ℤ) (x o : ℤ) → (rule ≡ Exact → ⊥) → (merged rule safe o x ≡ o → ⊥)
     → forced_of rule safe (Some o) (before ++ x ∷ after) ≡ fold_of rule safe (before ++ x ∷ after)
-unsafe_more rule safe before after x o ne h =
+ignored_more rule safe before after x o ne h =
     forced_more rule safe o (before ++ x ∷ after) ne
     ∙ absorbed rule safe before after x o (merged_commutes rule safe x o ∙ picked (merged_picks rule safe o x ne)) where
       picked : (merged rule safe o x ≡ o) ⊎ (merged rule safe o x ≡ x) → merged rule safe o x ≡ x
       picked (inl e) = absurd (h e)
       picked (inr e) = e
 
-eq_not_false : (a b : ℤ) → a ≡ b → int_eq a b ≡ false → ⊥
-eq_not_false a b e s = let t : int_eq a b ≡ true = rw e (int_eq_self b) in cc
-
 -- an override that the value of a core in the list doesn't give way to leaves no mark
-pub unsafe_ignored : (rule : Rule) (safe : ℤ) (before after : List ℤ) (x o : ℤ) → (merged rule safe o x ≡ o → ⊥)
+pub override_ignored : (rule : Rule) (safe : ℤ) (before after : List ℤ) (x o : ℤ) → (merged rule safe o x ≡ o → ⊥)
     → forced_of rule safe (Some o) (before ++ x ∷ after) ≡ fold_of rule safe (before ++ x ∷ after)
-unsafe_ignored Exact safe before after x o h =
+override_ignored Exact safe before after x o h =
     forced_exact_other safe o (before ++ x ∷ after)
     (λ e. h (merged_exact safe o x ∙ rw e (either (int_eq safe x) safe)))
-unsafe_ignored Lower safe before after x o h = unsafe_more Lower safe before after x o (λ e. cc) h
-unsafe_ignored Higher safe before after x o h = unsafe_more Higher safe before after x o (λ e. cc) h
-unsafe_ignored HigherOrZero safe before after x o h = unsafe_more HigherOrZero safe before after x o (λ e. cc) h
+override_ignored Lower safe before after x o h = ignored_more Lower safe before after x o (λ e. cc) h
+override_ignored Higher safe before after x o h = ignored_more Higher safe before after x o (λ e. cc) h
+override_ignored HigherOrZero safe before after x o h = ignored_more HigherOrZero safe before after x o (λ e. cc) h
 
 -- an override that the value of a core in the list gives way to counts as one more value
-pub safe_counts : (rule : Rule) (safe : ℤ) (before after : List ℤ) (x o : ℤ) → merged rule safe o x ≡ o
+pub override_taken : (rule : Rule) (safe : ℤ) (before after : List ℤ) (x o : ℤ) → merged rule safe o x ≡ o
     → forced_of rule safe (Some o) (before ++ x ∷ after) ≡ fold_of rule safe (o ∷ (before ++ x ∷ after))
-safe_counts Exact safe before after x o h = by_bool (int_eq o safe) safe_one other_one where
+override_taken Exact safe before after x o h = by_bool (int_eq o safe) safe_one other_one where
   values : List ℤ
   values = before ++ x ∷ after
 
@@ -115,6 +109,6 @@ safe_counts Exact safe before after x o h = by_bool (int_eq o safe) safe_one oth
       (λ t. absurd (ne (sym (sym (merged_exact safe o x ∙ ap (λ b. cond b o safe) t) ∙ h)))) in
       forced_exact_other safe o (before ++ x ∷ after) ne
       ∙ sym (absorbed Exact safe before after x o (ap (merged Exact safe x) same ∙ merged_same Exact safe x))
-safe_counts Lower safe before after x o h = forced_more Lower safe o (before ++ x ∷ after) (λ e. cc)
-safe_counts Higher safe before after x o h = forced_more Higher safe o (before ++ x ∷ after) (λ e. cc)
-safe_counts HigherOrZero safe before after x o h = forced_more HigherOrZero safe o (before ++ x ∷ after) (λ e. cc)
+override_taken Lower safe before after x o h = forced_more Lower safe o (before ++ x ∷ after) (λ e. cc)
+override_taken Higher safe before after x o h = forced_more Higher safe o (before ++ x ∷ after) (λ e. cc)
+override_taken HigherOrZero safe before after x o h = forced_more HigherOrZero safe o (before ++ x ∷ after) (λ e. cc)

@@ -1,3 +1,5 @@
+//! One value for two, for many, and under an override.
+
 ghost use Rattle.std.specs.Prelude.{◌≡◌, ◌<◌, length};
 ghost use Rattle.armcaps_rule.specs.Rule.{fold_of, forced_of, merged};
 

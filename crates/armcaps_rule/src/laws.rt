@@ -10,7 +10,8 @@ use crate::rule::Rule;
 pub fn merge_joins(rule: Rule, safe: i64, first: i64, second: i64, third: i64)
     ensures same { merged rule safe first first ≡ first }
     ensures order { merged rule safe first second ≡ merged rule safe second first }
-    ensures grouping { merged rule safe (merged rule safe first second) third ≡ merged rule safe first (merged rule safe second third) }
+    ensures grouping { merged rule safe (merged rule safe first second) third
+        ≡ merged rule safe first (merged rule safe second third) }
 {}
 
 /// A value that comes to others, in whatever place it stands among them, is merged into their one value. So the order
@@ -24,14 +25,15 @@ pub fn insert_merges(
     after: &[i64],
 )
     requires { 0 < length before.now + length after.now }
-    ensures fold { fold_of rule safe (before.now ++ value ∷ after.now) ≡ merged rule safe (fold_of rule safe (before.now ++ after.now)) value }
+    ensures fold { fold_of rule safe (before.now ++ value ∷ after.now)
+        ≡ merged rule safe (fold_of rule safe (before.now ++ after.now)) value }
     ensures forced { forced_of rule safe over (before.now ++ value ∷ after.now)
         ≡ merged rule safe (forced_of rule safe over (before.now ++ after.now)) value }
 {}
 
-/// An override is safe for a value where merging the two gives the override. A safe override counts as one more value,
-/// and any other leaves no mark, whatever values stand beside that one.
-pub fn override_is_safe_or_ignored(
+/// An override that merging with some core's value gives back is taken: it counts as one more value. Any other leaves no
+/// mark, whatever values stand beside that one.
+pub fn override_is_taken_or_ignored(
     rule: Rule,
     safe: i64,
     over: i64,
@@ -39,9 +41,10 @@ pub fn override_is_safe_or_ignored(
     value: i64,
     after: &[i64],
 )
-    ensures counts { merged rule safe over value ≡ over
+    ensures taken { merged rule safe over value ≡ over
         → forced_of rule safe (Some over) (before.now ++ value ∷ after.now)
         ≡ fold_of rule safe (over ∷ (before.now ++ value ∷ after.now)) }
     ensures ignored { merged rule safe over value ≢ over
-        → forced_of rule safe (Some over) (before.now ++ value ∷ after.now) ≡ fold_of rule safe (before.now ++ value ∷ after.now) }
+        → forced_of rule safe (Some over) (before.now ++ value ∷ after.now)
+        ≡ fold_of rule safe (before.now ++ value ∷ after.now) }
 {}

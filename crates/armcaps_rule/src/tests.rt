@@ -1,3 +1,5 @@
+//! Values of cores, and overrides of them.
+
 use super::*;
 
 #[test]
