@@ -1,0 +1,102 @@
+"""Machine texts and reports, as the tools read them. That a text is right is armcaps' to say: here only its facts are taken."""
+
+import dataclasses
+import pathlib
+import sys
+
+
+class Unreadable(Exception):
+    """A file that is not what it is taken for."""
+
+
+def load(name):
+    """The bytes of a file, or of standard input for `-`."""
+    return sys.stdin.buffer.read() if name == "-" else pathlib.Path(name).read_bytes()
+
+
+@dataclasses.dataclass
+class Machine:
+    """What a machine text says: each core's registers by name, the boot core and the command line."""
+
+    cores: list
+    boot: int
+    cmdline: str
+
+
+def number(token):
+    return int(token, 16) if token.startswith("0x") else int(token)
+
+
+def machine(data):
+    """The facts of a machine text."""
+    lines = data.split(b"\n")
+    if lines[0].split() not in ([b"armcaps", b"1"], [b"armcaps", b"2"]):
+        raise Unreadable("no machine text: line 1 is not `armcaps 1` or `armcaps 2`")
+    found = Machine([], 0, "")
+    for count, line in enumerate(lines[1:], 2):
+        text = line.decode("utf-8", "replace").lstrip(" ")
+        tokens = [token for token in text.split(" ") if token]
+        if not tokens or tokens[0].startswith("#"):
+            continue
+        if tokens[0] in ("end", "image"):
+            return found
+        try:
+            if tokens[0] == "core":
+                found.cores.append({})
+            elif tokens[0] == "boot":
+                found.boot = number(tokens[1])
+            elif tokens[0] == "cmdline":
+                found.cmdline = text.partition(" ")[2]
+            elif tokens[0].endswith(("_el0", "_el1")) or tokens[0] == "sve_vl":
+                found.cores[-1][tokens[0]] = number(tokens[1])
+        except (IndexError, ValueError):
+            raise Unreadable(f"line {count} of the text has no number, or stands before the first core") from None
+    raise Unreadable("the text has no line `end` or `image`")
+
+
+@dataclasses.dataclass
+class Report:
+    """What a report says: each core's state, the system's and the users' words, the notes, and what is enabled."""
+
+    states: list
+    system: dict
+    user: dict
+    varies: list
+    notes: dict
+    capabilities: list
+    flags: list
+
+
+def report(data):
+    """The facts of a report."""
+    lines = data.decode("utf-8", "replace").splitlines()
+    if not lines or lines[0] != "armcaps report 1" or lines[-1] != "end":
+        raise Unreadable("no report: it does not begin with `armcaps report 1` and end with `end`")
+    found = Report([], {}, {}, [], {}, [], [])
+    for line in lines[1:-1]:
+        word, _, rest = line.partition(" ")
+        tokens = rest.split(" ")
+        if word == "core":
+            found.states.append(rest.partition(" ")[2])
+        elif word in ("reg", "user"):
+            (found.system if word == "reg" else found.user)[tokens[0]] = int(tokens[1], 16)
+        elif word == "varies":
+            found.varies.append(rest)
+        elif word == "note":
+            found.notes[tokens[0]] = tokens[1]
+        elif word == "cap":
+            found.capabilities.append(tokens[1])
+        elif word == "flags":
+            found.flags += tokens
+    return found
+
+
+def spans(numbers):
+    """Rising numbers in short, as 0-3, 7."""
+    found = []
+    for value in numbers:
+        if found and found[-1][1] == value - 1:
+            found[-1][1] = value
+        else:
+            found.append([value, value])
+    return ", ".join(str(low) if low == high else f"{low}-{high}" for low, high in found)
