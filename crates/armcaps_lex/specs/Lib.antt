@@ -1,0 +1,3 @@
+-- The pieces of a text, and the numbers that digits write.
+pub mod Pieces
+pub mod Digits
