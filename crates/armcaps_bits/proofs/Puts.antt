@@ -105,19 +105,36 @@ put_code_is_put shift width mask number word range fits small is =
     let sum : spliced shift width number word ≡ put_code shift mask number word = rw is (sym (put_is shift width number word range.2 fits small)) in
     subst (IsPut shift width number word) sum (spliced_is_put shift width number word fits (rw sum (put_code-lt shift mask number word small)))
 
--- where the word has no bit from the range on, the parts are two
-pub put_code-sum : (shift width mask number word : ℕ) → IsRange shift width → number < 2 ^ width → word < 2 ^ 64 → mask ≡ (2 ^ width - 1) * 2 ^ shift → word < 2 ^ shift → put_code shift mask number word ≡ word + number * 2 ^ shift
-put_code-sum shift width mask number word range fits small is short =
+-- bits above all that a word has are added to it
+pub spliced_low : (shift width number word : ℕ) → word < 2 ^ shift
+    → spliced shift width number word ≡ word + number * 2 ^ shift
+spliced_low shift width number word low =
+    let longer : shift ≤ width + shift = omega arith in
     let long : word < 2 ^ (width + shift) = omega (arith, pow-le-pow_right {n = 2} (lit< tt) longer) in
-    rw (is, put_is shift width number word range.2 fits small, div-eq_of_lt long, mod-eq_of_lt short, zero-mul) (omega arith)
-  where
-    longer : shift ≤ width + shift
-    longer = omega arith
+    rw (div-eq_of_lt long, mod-eq_of_lt low, zero-mul) (omega arith)
 
-pub put_code_below : (shift width mask number word : ℕ) → IsRange shift width → number < 2 ^ width → word < 2 ^ 64 → mask ≡ (2 ^ width - 1) * 2 ^ shift → word < 2 ^ shift → put_code shift mask number word < 2 ^ (shift + width)
+-- so they are put there, and the sum ends where they do
+pub put_above : (shift width number word : ℕ) → shift + width ≤ 64 → number < 2 ^ width → word < 2 ^ shift
+    → IsPut shift width number word (word + number * 2 ^ shift) × (word + number * 2 ^ shift < 2 ^ (shift + width))
+put_above shift width number word within fits low =
+    let is : spliced shift width number word ≡ word + number * 2 ^ shift = spliced_low shift width number word low in
+    let short : word % 2 ^ shift ≡ word = mod-eq_of_lt low in
+    let below : word + number * 2 ^ shift < 2 ^ (shift + width) =
+    rw (add_comm shift width) (omega (arith, short, low_part shift width number word fits)) in
+    let small : word + number * 2 ^ shift < 2 ^ 64 = omega (arith, below, pow-le-pow_right {n = 2} (lit< tt) within) in
+    (subst (IsPut shift width number word) is (spliced_is_put shift width number word fits (rw is small)), below)
+
+-- where the word has no bit from the range on, the code's answer is that sum
+pub put_code-sum : (shift width mask number word : ℕ) → IsRange shift width → number < 2 ^ width → word < 2 ^ 64
+    → mask ≡ (2 ^ width - 1) * 2 ^ shift → word < 2 ^ shift → put_code shift mask number word ≡ word + number * 2 ^ shift
+put_code-sum shift width mask number word range fits small is short =
+    rw (is, put_is shift width number word range.2 fits small) (spliced_low shift width number word short)
+
+pub put_code_below : (shift width mask number word : ℕ) → IsRange shift width → number < 2 ^ width → word < 2 ^ 64
+    → mask ≡ (2 ^ width - 1) * 2 ^ shift → word < 2 ^ shift → put_code shift mask number word < 2 ^ (shift + width)
 put_code_below shift width mask number word range fits small is short =
-    let low : word % 2 ^ shift ≡ word = mod-eq_of_lt short in
-    rw (put_code-sum shift width mask number word range fits small is short, add_comm shift width) (omega (arith, low, low_part shift width number word fits))
+    rw (put_code-sum shift width mask number word range fits small is short)
+    (put_above shift width number word range.2 fits short).1
 
 -- a range that begins at bit 0 is a remainder
 low_field : (width word : ℕ) → unsigned_field 0 width word ≡ word % 2 ^ width

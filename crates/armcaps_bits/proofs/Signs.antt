@@ -1,5 +1,5 @@
 -- Numbers in two's complement: reading the bits, writing them, and what fits.
-use Rattle.std.proofs.Common.{◌≡◌, ℕ, ◌+◌, ◌-◌, ◌*◌, ◌/◌, ◌%◌, ◌^◌, ◌<◌, ◌≤◌, suc, ℤ, pos, negsuc, Bool, true, false, IsTrue, bit_and, w64, to_z, of_z, SFits, refl, sym, ap, subst, ◌∙◌, inl, inr, arith}
+use Rattle.std.proofs.Common.{◌≡◌, ℕ, ◌+◌, ◌-◌, ◌*◌, ◌/◌, ◌%◌, ◌^◌, ◌<◌, ◌≤◌, ◌⊎◌, suc, ℤ, pos, negsuc, Bool, true, false, IsTrue, bit_and, w64, to_z, of_z, SFits, refl, sym, ap, subst, ◌∙◌, inl, inr, arith}
 use Rattle.std.proofs.Math.Nat.{mul_comm, add-zero, mod-eq_of_lt}
 use Rattle.std.proofs.lemmas.Bool.{lt-leb, le-leb, lt-ltb, ltb-true, cases_lt, false≢true}
 use Rattle.std.proofs.lemmas.Int.{ints, to_z_pos, to_z-of_z}
@@ -136,3 +136,29 @@ bits_are signed width value cast low some within fits small is low_is =
 pub bits_read : (signed : Bool) (width : ℕ) (value : ℤ) (cast low : ℕ) → 1 ≤ width → width ≤ 64 → IsTrue (field_fits signed width value) → SFits w64 value → cast ≡ of_z w64 (to_z w64 (of_z w64 value)) → low ≡ 2 ^ width - 1 → number_of signed width (bit_and cast low) ≡ value
 bits_read signed width value cast low some within fits small is low_is =
     rw (bits_are signed width value cast low some within fits small is low_is) (number_of-field_bits signed width value some fits)
+
+-- the bits of a value that fits are no more than the field has
+pub field_bits_below : (signed : Bool) (width : ℕ) (value : ℤ) → 1 ≤ width → IsTrue (field_fits signed width value)
+    → field_bits width value < 2 ^ width
+field_bits_below false width (pos n) some fits = ltb-true n (2 ^ width) fits
+field_bits_below false width (negsuc n) some fits = absurd (false≢true fits)
+field_bits_below true width (pos n) some fits =
+    omega (arith, pow-top width some, ltb-true n (2 ^ (width - 1)) fits)
+field_bits_below true width (negsuc n) some fits =
+    omega (arith, pow-top width some, ltb-true n (2 ^ (width - 1)) fits, pow_pos width)
+
+-- the bits of the value that a number stands for are that number
+pub field_bits-number_of : (signed : Bool) (width number : ℕ) → 1 ≤ width → number < 2 ^ width
+    → field_bits width (number_of signed width number) ≡ number
+field_bits-number_of false width number some small = refl
+field_bits-number_of true width number some small = on (cases_lt number (2 ^ (width - 1))) where
+  on : (number < 2 ^ (width - 1)) ⊎ (2 ^ (width - 1) ≤ number) → field_bits width (signed_number width number) ≡ number
+  on (inl low) = ap (field_bits width) (signed_number-low width number low)
+  on (inr high) = ap (field_bits width) (signed_number-high width number high small) ∙ omega arith
+
+-- one number stands for a field's value
+pub one_number : (signed : Bool) (width one other : ℕ) → 1 ≤ width → one < 2 ^ width → other < 2 ^ width
+    → number_of signed width one ≡ number_of signed width other → one ≡ other
+one_number signed width one other some small small' same =
+    sym (field_bits-number_of signed width one some small) ∙ ap (field_bits width) same
+    ∙ field_bits-number_of signed width other some small'

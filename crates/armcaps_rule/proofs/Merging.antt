@@ -1,6 +1,6 @@
 -- What merging two values gives, and folds one value at a time.
-use Rattle.std.proofs.Common.{take, drop, length-append, get_or, ◌+◌, ◌-◌, ◌≤◌, ◌≡◌, ℕ, ◌<◌, length, ◌⊎◌, inl, inr, true, false, cond, ◌||◌, List, [], ◌∷◌, ◌++◌, Some, refl, sym, ◌∙◌, ap, arith, w64, to_z, of_z}
-use Rattle.std.specs.Prelude.{ℤ, pos, unwrap_or, int_le, int_lt}
+use Rattle.std.proofs.Common.{take, drop, length-append, get_or, ◌+◌, ◌-◌, ◌≤◌, ◌≡◌, ℕ, suc, ◌<◌, length, ◌⊎◌, inl, inr, true, false, cond, ◌||◌, List, [], ◌∷◌, ◌++◌, Some, refl, sym, ◌∙◌, ap, arith, w64, to_z, of_z}
+use Rattle.std.specs.Prelude.{ℤ, pos, All, unwrap_or, int_le, int_lt}
 use Rattle.std.specs.Int.{int_min, int_max}
 use Rattle.std.specs.Ordering.{int_eq}
 use Rattle.std.proofs.lemmas.Grind.{common_steps}
@@ -139,6 +139,16 @@ merged_same HigherOrZero safe x = by_bool (int_eq (pos 0) x)
     (λ z. let e = int_eq_true (pos 0) x z in sym (merge_zero HigherOrZero safe x x refl (inl (sym e))) ∙ e)
     (λ z. merged_higher_or_zero safe x x
     ∙ ap (λ b. cond (b || (b || false)) (pos 0) (int_max x x)) z ∙ either (int_lt x x) x)
+
+-- values that are all one have it as their fold
+pub fold_same : (rule : Rule) (safe : ℤ) (values : List ℤ) (x : ℤ) → 0 < length values → All (λ y. y ≡ x) values
+    → fold_of rule safe values ≡ x
+fold_same rule safe [] x some all = absurd (omega arith)
+fold_same rule safe (y ∷ []) x some all = fold_one rule safe y ∙ all 0 x (omega arith)
+fold_same rule safe (y ∷ z ∷ values) x some all =
+    fold_front rule safe (z ∷ values) y (omega arith)
+    ∙ ap (λ v. merged rule safe v y) (fold_same rule safe (z ∷ values) x (omega arith) (λ k d h. all (suc k) d (omega arith)))
+    ∙ ap (merged rule safe x) (all 0 x (omega arith)) ∙ merged_same rule safe x
 
 pub merged_commutes : (rule : Rule) (safe a b : ℤ) → merged rule safe a b ≡ merged rule safe b a
 merged_commutes rule safe a b =

@@ -1,5 +1,5 @@
 -- Forced values: what an override changes.
-use Rattle.std.proofs.Common.{length-append, ◌≡◌, ◌<◌, length, ◌⊎◌, inl, inr, true, false, cond, List, ◌∷◌, ◌++◌, Option, Some, None, refl, sym, ◌∙◌, ap, arith}
+use Rattle.std.proofs.Common.{length-append, ◌≡◌, ◌<◌, length, ◌⊎◌, inl, inr, true, false, cond, List, [], ◌∷◌, ◌++◌, Option, Some, None, refl, sym, ◌∙◌, ap, arith}
 use Rattle.std.specs.Prelude.{ℤ}
 use Rattle.std.specs.Ordering.{int_eq}
 use Rattle.armcaps_rule.specs.declared.rule.Rule.{Rule}
@@ -7,7 +7,7 @@ use Rattle.armcaps_rule.specs.declared.rule.Rule.TheVariants.{Exact, Lower, High
 use Rattle.armcaps_rule.specs.Rule.{fold_of, merged, forced_of}
 use Rattle.armcaps_rule.proofs.Leading.{int_eq_self, int_eq_true}
 use Rattle.armcaps_rule.proofs.Insertion.{by_bool, either, fold_insert}
-use Rattle.armcaps_rule.proofs.Merging.{merged_exact, merged_same, merged_commutes, merged_picks, absorbed, int_eq_not, eq_not_false, fold_front}
+use Rattle.armcaps_rule.proofs.Merging.{merged_exact, merged_same, merged_commutes, merged_associates, merged_picks, absorbed, int_eq_not, eq_not_false, fold_front, fold_one}
 
 pub forced_none : (rule : Rule) (safe : ℤ) (values : List ℤ) → forced_of rule safe None values ≡ fold_of rule safe values
 unfolding forced_of
@@ -62,6 +62,45 @@ forced_insert Higher safe (Some override) before after x h =
     more_insert Higher safe override before after x h (λ e. cc)
 forced_insert HigherOrZero safe (Some override) before after x h =
     more_insert HigherOrZero safe override before after x h (λ e. cc)
+
+-- a value merged into what it and one more make changes nothing
+merged_again : (rule : Rule) (safe folded x : ℤ) → merged rule safe (merged rule safe folded x) x ≡ merged rule safe folded x
+merged_again rule safe folded x =
+    merged_associates rule safe folded x x ∙ ap (merged rule safe folded) (merged_same rule safe x)
+
+again_more : (rule : Rule) (safe override x : ℤ) → (rule ≡ Exact → ⊥)
+    → merged rule safe (forced_of rule safe (Some override) (x ∷ [])) x ≡ forced_of rule safe (Some override) (x ∷ [])
+again_more rule safe override x ne =
+    let is : forced_of rule safe (Some override) (x ∷ []) ≡ merged rule safe override x =
+    forced_more rule safe override (x ∷ []) ne in
+    rw is (merged_again rule safe override x)
+
+-- the same of one value under an override
+again_alone : (rule : Rule) (safe : ℤ) (over : Option ℤ) (x : ℤ)
+    → merged rule safe (forced_of rule safe over (x ∷ [])) x ≡ forced_of rule safe over (x ∷ [])
+again_alone rule safe None x =
+    rw (forced_none rule safe (x ∷ []), fold_one rule safe x) (merged_same rule safe x)
+again_alone Exact safe (Some override) x = by_bool (int_eq override safe)
+    (λ s.
+    let is = forced_exact_safe safe override (x ∷ []) (int_eq_true override safe s) in
+    rw is (merged_exact safe safe x ∙ either (int_eq safe x) safe))
+    (λ s.
+    let is = forced_exact_other safe override (x ∷ []) (λ e. eq_not_false override safe e s) in
+    rw (is, fold_one Exact safe x) (merged_same Exact safe x))
+again_alone Lower safe (Some override) x = again_more Lower safe override x (λ e. cc)
+again_alone Higher safe (Some override) x = again_more Higher safe override x (λ e. cc)
+again_alone HigherOrZero safe (Some override) x = again_more HigherOrZero safe override x (λ e. cc)
+
+-- a value that is among those of a forced value already, merged again, changes nothing
+pub forced_again : (rule : Rule) (safe : ℤ) (over : Option ℤ) (before after : List ℤ) (x : ℤ)
+    → merged rule safe (forced_of rule safe over (before ++ x ∷ after)) x ≡ forced_of rule safe over (before ++ x ∷ after)
+forced_again rule safe over [] [] x = again_alone rule safe over x
+forced_again rule safe over [] (y ∷ after) x =
+    let is = forced_insert rule safe over [] (y ∷ after) x (omega arith) in
+    rw is (merged_again rule safe (forced_of rule safe over (y ∷ after)) x)
+forced_again rule safe over (y ∷ before) after x =
+    let is = forced_insert rule safe over (y ∷ before) after x (omega arith) in
+    rw is (merged_again rule safe (forced_of rule safe over (y ∷ before ++ after)) x)
 
 ignored_more : (rule : Rule) (safe : ℤ) (before after : List ℤ) (x o : ℤ) → (rule ≡ Exact → ⊥) → (merged rule safe o x ≡ o → ⊥)
     → forced_of rule safe (Some o) (before ++ x ∷ after) ≡ fold_of rule safe (before ++ x ∷ after)

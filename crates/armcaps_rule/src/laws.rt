@@ -31,6 +31,19 @@ pub fn insert_merges(
         ≡ merged rule safe (forced_of rule safe over (before.now ++ after.now)) value }
 {}
 
+/// A value that is among others already, in whatever place, changes nothing where it is merged once more.
+pub fn merging_again_changes_nothing(
+    rule: Rule,
+    safe: i64,
+    over: Option<i64>,
+    before: &[i64],
+    value: i64,
+    after: &[i64],
+)
+    ensures { merged rule safe (forced_of rule safe over (before.now ++ value ∷ after.now)) value
+        ≡ forced_of rule safe over (before.now ++ value ∷ after.now) }
+{}
+
 /// An override that merging with some core's value gives back is taken: it counts as one more value. Any other leaves no
 /// mark, whatever values stand beside that one.
 pub fn override_is_taken_or_ignored(
