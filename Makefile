@@ -1,16 +1,61 @@
-# The program, the gate, and an installed copy of the program and its manual page; all the work is done by `rt`.
+# The program, its check, and an installed copy with its manual page, pages, tools and examples. All proving is done by `rt`.
+#
+#   make             proves the program and builds it: some minutes and up to 4 GB the first time, seconds after that
+#   make try         runs it on an example within some twenty seconds, before any proof
+#   make check       the gate, and the checks of pages and tools after it
+#   make install     copies to DESTDIR and PREFIX; make uninstall removes what it copied
 PREFIX ?= /usr/local
+BINDIR ?= $(PREFIX)/bin
+DATADIR ?= $(PREFIX)/share
+MANDIR ?= $(DATADIR)/man
+DOCDIR ?= $(DATADIR)/doc/armcaps
+
+VERSION := $(shell cat VERSION)
 PROGRAM := crates/armcaps/out/armcaps
+TOOLS := dump2text explain cmdline-lint
+PAGES := $(wildcard docs/MACHINE-TEXT.md docs/OVERRIDES.md docs/REPORT.md docs/FIELDS.md docs/CAPABILITIES.md docs/HWCAPS.md \
+	docs/FROM-A-BOARD.md)
+EXAMPLES := $(wildcard examples/*.txt examples/*.report) examples/README.md
+DUMPS := $(wildcard examples/dumps/*)
+MODULES := $(patsubst %,tools/armcaps_tools/%.py,__init__ profile text)
+TABLES := $(wildcard tools/data/*.tsv)
+IDREGS := $(patsubst %,tools/idregs/%,Makefile idregs.c registers.h virt.c virt-start.S virt.ld go.S)
+LIBRARY := $(DESTDIR)$(DATADIR)/armcaps
 
 all:
-	cd crates/armcaps && rt run -- report < ../../examples/big-little.txt > /dev/null
+	cd crates/armcaps && rt run -- report < ../../examples/one-core.txt > /dev/null
+	@echo "built $(PROGRAM)"
+
+try:
+	cd crates/armcaps && rt try -- report < ../../examples/big-little.txt
 
 check:
-	rt ci
+	.ci/run
 
-install: all
-	install -D $(PROGRAM) $(DESTDIR)$(PREFIX)/bin/armcaps
-	install -D -m 644 docs/armcaps.1 $(DESTDIR)$(PREFIX)/share/man/man1/armcaps.1
-	install -D -m 644 -t $(DESTDIR)$(PREFIX)/share/doc/armcaps docs/MACHINE-TEXT.md docs/OVERRIDES.md docs/REPORT.md
+install:
+	@test -x $(PROGRAM) || { echo "make install: no $(PROGRAM): run make first" >&2; exit 1; }
+	install -D $(PROGRAM) $(DESTDIR)$(BINDIR)/armcaps
+	install -d $(DESTDIR)$(MANDIR)/man1
+	sed -e "s,@VERSION@,$(VERSION),; s,@DOCDIR@,$(DOCDIR),g" docs/armcaps.1 > $(DESTDIR)$(MANDIR)/man1/armcaps.1
+	install -D -m 644 -t $(DESTDIR)$(DOCDIR) $(PAGES)
+	install -D -m 644 -t $(DESTDIR)$(DOCDIR)/examples $(EXAMPLES)
+	install -D -m 644 -t $(DESTDIR)$(DOCDIR)/examples/dumps $(DUMPS)
+	install -D -t $(LIBRARY) $(TOOLS:%=tools/%)
+	install -D -m 644 -t $(LIBRARY)/armcaps_tools $(MODULES)
+	install -D -m 644 -t $(LIBRARY)/data $(TABLES)
+	install -D -m 644 -t $(LIBRARY)/idregs $(IDREGS)
+	install -D -t $(LIBRARY)/idregs tools/idregs/build tools/idregs/run
+	for tool in $(TOOLS); do ln -sfr $(LIBRARY)/$$tool $(DESTDIR)$(BINDIR)/armcaps-$$tool; done
 
-.PHONY: all check install
+# what install copied, and the folders of its own that are empty then
+uninstall:
+	rm -f $(DESTDIR)$(BINDIR)/armcaps $(TOOLS:%=$(DESTDIR)$(BINDIR)/armcaps-%) $(DESTDIR)$(MANDIR)/man1/armcaps.1
+	cd $(DESTDIR)$(DOCDIR) && rm -f $(notdir $(PAGES)) $(EXAMPLES) $(DUMPS)
+	cd $(LIBRARY) && rm -f $(TOOLS) $(patsubst tools/%,%,$(MODULES) $(TABLES) $(IDREGS)) idregs/build idregs/run
+	rm -rf $(LIBRARY)/armcaps_tools/__pycache__
+	-rmdir $(LIBRARY)/armcaps_tools $(LIBRARY)/data $(LIBRARY)/idregs $(LIBRARY) $(addprefix $(DESTDIR)$(DOCDIR),/examples/dumps /examples /)
+
+clean:
+	rm -rf build crates/*/out
+
+.PHONY: all try check install uninstall clean
