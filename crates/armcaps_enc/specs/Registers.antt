@@ -1,5 +1,7 @@
 -- The system registers that describe a core, in the order in which texts and reports list them.
-use Rattle.std.specs.Prelude.{ℕ, ◌+◌, ◌*◌, ◌^◌, ◌==◌, List, [], ◌∷◌, Option, find, codes}
+use Rattle.std.specs.Prelude.{ℕ, ◌+◌, ◌-◌, ◌*◌, ◌^◌, ◌==◌, Bool, nat_eq, List, [], ◌∷◌, length, take, filter, Option, find, codes}
+use Prim.Native.String.{String}
+use Rattle.std.specs.List.{starts_with}
 use Rattle.std.specs.Str.{bytes_eq}
 use Rattle.armcaps_enc.specs.declared.register.SysReg.{SysReg}
 use Rattle.armcaps_enc.specs.declared.register.SysReg.TheVariants.{MidrEl1, MpidrEl1, RevidrEl1, IdAa64Pfr0El1, IdAa64Pfr1El1, IdAa64Zfr0El1, IdAa64Smfr0El1, IdAa64Dfr0El1, IdAa64Isar0El1, IdAa64Isar1El1, IdAa64Isar2El1, IdAa64Mmfr0El1, IdAa64Mmfr1El1, IdAa64Mmfr2El1, IdAa64Mmfr3El1, CtrEl0, DczidEl0}
@@ -12,25 +14,36 @@ pub record Encoding : Type 0 where
   pub crm : ℕ
   pub op2 : ℕ
 
--- each register's encoding (Arm ARM DDI 0487, "General system control registers")
-abbrev pub encoding : SysReg → Encoding
-encoding MidrEl1 = record { op0 = 3; op1 = 0; crn = 0; crm = 0; op2 = 0 }
-encoding MpidrEl1 = record { op0 = 3; op1 = 0; crn = 0; crm = 0; op2 = 5 }
-encoding RevidrEl1 = record { op0 = 3; op1 = 0; crn = 0; crm = 0; op2 = 6 }
-encoding IdAa64Pfr0El1 = record { op0 = 3; op1 = 0; crn = 0; crm = 4; op2 = 0 }
-encoding IdAa64Pfr1El1 = record { op0 = 3; op1 = 0; crn = 0; crm = 4; op2 = 1 }
-encoding IdAa64Zfr0El1 = record { op0 = 3; op1 = 0; crn = 0; crm = 4; op2 = 4 }
-encoding IdAa64Smfr0El1 = record { op0 = 3; op1 = 0; crn = 0; crm = 4; op2 = 5 }
-encoding IdAa64Dfr0El1 = record { op0 = 3; op1 = 0; crn = 0; crm = 5; op2 = 0 }
-encoding IdAa64Isar0El1 = record { op0 = 3; op1 = 0; crn = 0; crm = 6; op2 = 0 }
-encoding IdAa64Isar1El1 = record { op0 = 3; op1 = 0; crn = 0; crm = 6; op2 = 1 }
-encoding IdAa64Isar2El1 = record { op0 = 3; op1 = 0; crn = 0; crm = 6; op2 = 2 }
-encoding IdAa64Mmfr0El1 = record { op0 = 3; op1 = 0; crn = 0; crm = 7; op2 = 0 }
-encoding IdAa64Mmfr1El1 = record { op0 = 3; op1 = 0; crn = 0; crm = 7; op2 = 1 }
-encoding IdAa64Mmfr2El1 = record { op0 = 3; op1 = 0; crn = 0; crm = 7; op2 = 2 }
-encoding IdAa64Mmfr3El1 = record { op0 = 3; op1 = 0; crn = 0; crm = 7; op2 = 3 }
-encoding CtrEl0 = record { op0 = 3; op1 = 3; crn = 0; crm = 0; op2 = 1 }
-encoding DczidEl0 = record { op0 = 3; op1 = 3; crn = 0; crm = 0; op2 = 7 }
+-- a register's encoding, and its name in texts: the manual's, in lower case
+pub record Description : Type 0 where
+  pub encoding : Encoding
+  pub name : List ℕ
+
+abbrev described_by : ℕ → ℕ → ℕ → ℕ → ℕ → String → Description
+described_by op0 op1 crn crm op2 name = record {
+  encoding = record { op0 = op0; op1 = op1; crn = crn; crm = crm; op2 = op2 };
+  name = codes name;
+}
+
+-- each register's op0, op1, CRn, CRm, op2 and name (Arm ARM DDI 0487, "General system control registers")
+abbrev pub description : SysReg → Description
+description MidrEl1 = described_by 3 0 0 0 0 "midr_el1"
+description MpidrEl1 = described_by 3 0 0 0 5 "mpidr_el1"
+description RevidrEl1 = described_by 3 0 0 0 6 "revidr_el1"
+description IdAa64Pfr0El1 = described_by 3 0 0 4 0 "id_aa64pfr0_el1"
+description IdAa64Pfr1El1 = described_by 3 0 0 4 1 "id_aa64pfr1_el1"
+description IdAa64Zfr0El1 = described_by 3 0 0 4 4 "id_aa64zfr0_el1"
+description IdAa64Smfr0El1 = described_by 3 0 0 4 5 "id_aa64smfr0_el1"
+description IdAa64Dfr0El1 = described_by 3 0 0 5 0 "id_aa64dfr0_el1"
+description IdAa64Isar0El1 = described_by 3 0 0 6 0 "id_aa64isar0_el1"
+description IdAa64Isar1El1 = described_by 3 0 0 6 1 "id_aa64isar1_el1"
+description IdAa64Isar2El1 = described_by 3 0 0 6 2 "id_aa64isar2_el1"
+description IdAa64Mmfr0El1 = described_by 3 0 0 7 0 "id_aa64mmfr0_el1"
+description IdAa64Mmfr1El1 = described_by 3 0 0 7 1 "id_aa64mmfr1_el1"
+description IdAa64Mmfr2El1 = described_by 3 0 0 7 2 "id_aa64mmfr2_el1"
+description IdAa64Mmfr3El1 = described_by 3 0 0 7 3 "id_aa64mmfr3_el1"
+description CtrEl0 = described_by 3 3 0 0 1 "ctr_el0"
+description DczidEl0 = described_by 3 3 0 0 7 "dczid_el0"
 
 -- the five numbers in one (Linux, arch/arm64/include/asm/sysreg.h, `sys_reg`)
 abbrev pub encoded : ℕ → ℕ → ℕ → ℕ → ℕ → ℕ
@@ -38,27 +51,15 @@ encoded op0 op1 crn crm op2 = op0 * 2 ^ 19 + op1 * 2 ^ 16 + crn * 2 ^ 12 + crm *
 
 -- a register's number
 unfoldable pub number_of : SysReg → ℕ
-number_of register = let e = encoding register in encoded e.op0 e.op1 e.crn e.crm e.op2
+number_of register = let e = (description register).encoding in encoded e.op0 e.op1 e.crn e.crm e.op2
 
--- a register's name in texts: the manual's, in lower case
+-- a register's name in texts
 abbrev pub name_of : SysReg → List ℕ
-name_of MidrEl1 = codes "midr_el1"
-name_of MpidrEl1 = codes "mpidr_el1"
-name_of RevidrEl1 = codes "revidr_el1"
-name_of IdAa64Pfr0El1 = codes "id_aa64pfr0_el1"
-name_of IdAa64Pfr1El1 = codes "id_aa64pfr1_el1"
-name_of IdAa64Zfr0El1 = codes "id_aa64zfr0_el1"
-name_of IdAa64Smfr0El1 = codes "id_aa64smfr0_el1"
-name_of IdAa64Dfr0El1 = codes "id_aa64dfr0_el1"
-name_of IdAa64Isar0El1 = codes "id_aa64isar0_el1"
-name_of IdAa64Isar1El1 = codes "id_aa64isar1_el1"
-name_of IdAa64Isar2El1 = codes "id_aa64isar2_el1"
-name_of IdAa64Mmfr0El1 = codes "id_aa64mmfr0_el1"
-name_of IdAa64Mmfr1El1 = codes "id_aa64mmfr1_el1"
-name_of IdAa64Mmfr2El1 = codes "id_aa64mmfr2_el1"
-name_of IdAa64Mmfr3El1 = codes "id_aa64mmfr3_el1"
-name_of CtrEl0 = codes "ctr_el0"
-name_of DczidEl0 = codes "dczid_el0"
+name_of register = (description register).name
+
+-- a register's name without its exception level, `_el1` or `_el0`, as `id_aa64pfr0` and `ctr`
+abbrev pub short_name_of : SysReg → List ℕ
+short_name_of register = take (length (name_of register) - 4) (name_of register)
 
 -- a register's place in the order
 abbrev pub place_of : SysReg → ℕ
@@ -82,11 +83,22 @@ place_of DczidEl0 = 16
 
 -- the registers whose fields all cores together decide
 abbrev pub tracked : List SysReg
-tracked = IdAa64Pfr0El1 ∷ IdAa64Pfr1El1 ∷ IdAa64Zfr0El1 ∷ IdAa64Smfr0El1 ∷ IdAa64Dfr0El1 ∷ IdAa64Isar0El1 ∷ IdAa64Isar1El1 ∷ IdAa64Isar2El1 ∷ IdAa64Mmfr0El1 ∷ IdAa64Mmfr1El1 ∷ IdAa64Mmfr2El1 ∷ IdAa64Mmfr3El1 ∷ CtrEl0 ∷ DczidEl0 ∷ []
+tracked =
+    IdAa64Pfr0El1 ∷ IdAa64Pfr1El1 ∷ IdAa64Zfr0El1 ∷ IdAa64Smfr0El1 ∷ IdAa64Dfr0El1 ∷ IdAa64Isar0El1
+    ∷ IdAa64Isar1El1 ∷ IdAa64Isar2El1 ∷ IdAa64Mmfr0El1 ∷ IdAa64Mmfr1El1 ∷ IdAa64Mmfr2El1 ∷ IdAa64Mmfr3El1
+    ∷ CtrEl0 ∷ DczidEl0 ∷ []
 
 -- all registers
 abbrev pub registers : List SysReg
 registers = MidrEl1 ∷ MpidrEl1 ∷ RevidrEl1 ∷ tracked
+
+-- whether a register is one of those that the manual calls ID registers, whose names begin with `id_`
+abbrev pub is_id_register : SysReg → Bool
+is_id_register register = starts_with nat_eq (name_of register) (codes "id_")
+
+-- the tracked ones among them: all tracked registers but CTR_EL0 and DCZID_EL0
+abbrev pub id_registers : List SysReg
+id_registers = filter is_id_register tracked
 
 -- the register that has the number
 unfoldable pub register_numbered : ℕ → Option SysReg

@@ -1,9 +1,68 @@
 ghost use Rattle.std.specs.Prelude.{◌≡◌, ◌<◌, IfSome, Some, slice_get};
-ghost use Rattle.armcaps_enc.specs.Registers.{encoded, name_of, number_of, place_of, register_named, register_numbered, registers};
+ghost use Rattle.armcaps_enc.specs.Registers.{is_id_register, name_of, number_of, place_of, register_named, register_numbered, registers, short_name_of};
+
+use crate::encoding::encode;
+
+// The registers in order, one line each: the variant, its op0, op1, CRn, CRm and op2, and its name. `$write` gets the
+// lines of the registers that are not tracked and then those of the tracked ones.
+macro_rules! registers {
+    ($write:ident $($with:tt)*) => {
+        $write! { $($with)*
+            {
+                MidrEl1(3, 0, 0, 0, 0) "midr_el1",
+                MpidrEl1(3, 0, 0, 0, 5) "mpidr_el1",
+                RevidrEl1(3, 0, 0, 0, 6) "revidr_el1",
+            } {
+                IdAa64Pfr0El1(3, 0, 0, 4, 0) "id_aa64pfr0_el1",
+                IdAa64Pfr1El1(3, 0, 0, 4, 1) "id_aa64pfr1_el1",
+                IdAa64Zfr0El1(3, 0, 0, 4, 4) "id_aa64zfr0_el1",
+                IdAa64Smfr0El1(3, 0, 0, 4, 5) "id_aa64smfr0_el1",
+                IdAa64Dfr0El1(3, 0, 0, 5, 0) "id_aa64dfr0_el1",
+                IdAa64Isar0El1(3, 0, 0, 6, 0) "id_aa64isar0_el1",
+                IdAa64Isar1El1(3, 0, 0, 6, 1) "id_aa64isar1_el1",
+                IdAa64Isar2El1(3, 0, 0, 6, 2) "id_aa64isar2_el1",
+                IdAa64Mmfr0El1(3, 0, 0, 7, 0) "id_aa64mmfr0_el1",
+                IdAa64Mmfr1El1(3, 0, 0, 7, 1) "id_aa64mmfr1_el1",
+                IdAa64Mmfr2El1(3, 0, 0, 7, 2) "id_aa64mmfr2_el1",
+                IdAa64Mmfr3El1(3, 0, 0, 7, 3) "id_aa64mmfr3_el1",
+                CtrEl0(3, 3, 0, 0, 1) "ctr_el0",
+                DczidEl0(3, 3, 0, 0, 7) "dczid_el0",
+            }
+        }
+    };
+}
+
+macro_rules! all_registers {
+    ({ $($one:ident($($part:literal),*) $name:literal,)* } { $($tracked:ident($($number:literal),*) $text:literal,)* }) => {
+        [$(SysReg::$one,)* $(SysReg::$tracked,)*]
+    };
+}
+
+macro_rules! tracked_registers {
+    ({ $($one:ident($($part:literal),*) $name:literal,)* } { $($tracked:ident($($number:literal),*) $text:literal,)* }) => {
+        [$(SysReg::$tracked,)*]
+    };
+}
+
+macro_rules! number_by_register {
+    ($register:tt $({ $($one:ident($($part:literal),*) $name:literal,)* })*) => {
+        match $register {
+            $($(SysReg::$one => encode($($part),*),)*)*
+        }
+    };
+}
+
+macro_rules! name_by_register {
+    ($register:tt $({ $($one:ident($($part:literal),*) $name:literal,)* })*) => {
+        match $register {
+            $($(SysReg::$one => $name,)*)*
+        }
+    };
+}
 
 /// A system register that describes a core (Arm ARM DDI 0487). The first three tell which core it is. Of the other
 /// fourteen, the tracked ones, all cores together decide each field.
-#[derive(Clone, Copy, PartialEq)]
+#[derive(Clone, Copy, Debug, PartialEq, Eq)]
 pub enum SysReg {
     MidrEl1,
     MpidrEl1,
@@ -26,43 +85,10 @@ pub enum SysReg {
 
 impl SysReg {
     /// All registers in order.
-    pub const ALL: [SysReg; 17] = [
-        SysReg::MidrEl1,
-        SysReg::MpidrEl1,
-        SysReg::RevidrEl1,
-        SysReg::IdAa64Pfr0El1,
-        SysReg::IdAa64Pfr1El1,
-        SysReg::IdAa64Zfr0El1,
-        SysReg::IdAa64Smfr0El1,
-        SysReg::IdAa64Dfr0El1,
-        SysReg::IdAa64Isar0El1,
-        SysReg::IdAa64Isar1El1,
-        SysReg::IdAa64Isar2El1,
-        SysReg::IdAa64Mmfr0El1,
-        SysReg::IdAa64Mmfr1El1,
-        SysReg::IdAa64Mmfr2El1,
-        SysReg::IdAa64Mmfr3El1,
-        SysReg::CtrEl0,
-        SysReg::DczidEl0,
-    ];
+    pub const ALL: [SysReg; 17] = registers!(all_registers);
 
     /// The tracked registers in order.
-    pub const TRACKED: [SysReg; 14] = [
-        SysReg::IdAa64Pfr0El1,
-        SysReg::IdAa64Pfr1El1,
-        SysReg::IdAa64Zfr0El1,
-        SysReg::IdAa64Smfr0El1,
-        SysReg::IdAa64Dfr0El1,
-        SysReg::IdAa64Isar0El1,
-        SysReg::IdAa64Isar1El1,
-        SysReg::IdAa64Isar2El1,
-        SysReg::IdAa64Mmfr0El1,
-        SysReg::IdAa64Mmfr1El1,
-        SysReg::IdAa64Mmfr2El1,
-        SysReg::IdAa64Mmfr3El1,
-        SysReg::CtrEl0,
-        SysReg::DczidEl0,
-    ];
+    pub const TRACKED: [SysReg; 14] = registers!(tracked_registers);
 
     /// The register's place in the order, from 0.
     pub fn place(self) -> usize
@@ -78,25 +104,7 @@ impl SysReg {
         ensures value { result ≡ number_of self }
         ensures own { register_numbered result ≡ Some self }
     {
-        match self {
-            SysReg::MidrEl1 => encode(3, 0, 0, 0, 0),
-            SysReg::MpidrEl1 => encode(3, 0, 0, 0, 5),
-            SysReg::RevidrEl1 => encode(3, 0, 0, 0, 6),
-            SysReg::IdAa64Pfr0El1 => encode(3, 0, 0, 4, 0),
-            SysReg::IdAa64Pfr1El1 => encode(3, 0, 0, 4, 1),
-            SysReg::IdAa64Zfr0El1 => encode(3, 0, 0, 4, 4),
-            SysReg::IdAa64Smfr0El1 => encode(3, 0, 0, 4, 5),
-            SysReg::IdAa64Dfr0El1 => encode(3, 0, 0, 5, 0),
-            SysReg::IdAa64Isar0El1 => encode(3, 0, 0, 6, 0),
-            SysReg::IdAa64Isar1El1 => encode(3, 0, 0, 6, 1),
-            SysReg::IdAa64Isar2El1 => encode(3, 0, 0, 6, 2),
-            SysReg::IdAa64Mmfr0El1 => encode(3, 0, 0, 7, 0),
-            SysReg::IdAa64Mmfr1El1 => encode(3, 0, 0, 7, 1),
-            SysReg::IdAa64Mmfr2El1 => encode(3, 0, 0, 7, 2),
-            SysReg::IdAa64Mmfr3El1 => encode(3, 0, 0, 7, 3),
-            SysReg::CtrEl0 => encode(3, 3, 0, 0, 1),
-            SysReg::DczidEl0 => encode(3, 3, 0, 0, 7),
-        }
+        registers!(number_by_register self)
     }
 
     /// The register with this number; `None` where no register has it.
@@ -117,25 +125,22 @@ impl SysReg {
         ensures value { result.now ≡ name_of self }
         ensures own { register_named result.now ≡ Some self }
     {
-        match self {
-            SysReg::MidrEl1 => "midr_el1",
-            SysReg::MpidrEl1 => "mpidr_el1",
-            SysReg::RevidrEl1 => "revidr_el1",
-            SysReg::IdAa64Pfr0El1 => "id_aa64pfr0_el1",
-            SysReg::IdAa64Pfr1El1 => "id_aa64pfr1_el1",
-            SysReg::IdAa64Zfr0El1 => "id_aa64zfr0_el1",
-            SysReg::IdAa64Smfr0El1 => "id_aa64smfr0_el1",
-            SysReg::IdAa64Dfr0El1 => "id_aa64dfr0_el1",
-            SysReg::IdAa64Isar0El1 => "id_aa64isar0_el1",
-            SysReg::IdAa64Isar1El1 => "id_aa64isar1_el1",
-            SysReg::IdAa64Isar2El1 => "id_aa64isar2_el1",
-            SysReg::IdAa64Mmfr0El1 => "id_aa64mmfr0_el1",
-            SysReg::IdAa64Mmfr1El1 => "id_aa64mmfr1_el1",
-            SysReg::IdAa64Mmfr2El1 => "id_aa64mmfr2_el1",
-            SysReg::IdAa64Mmfr3El1 => "id_aa64mmfr3_el1",
-            SysReg::CtrEl0 => "ctr_el0",
-            SysReg::DczidEl0 => "dczid_el0",
-        }
+        registers!(name_by_register self)
+    }
+
+    /// The register's name without its exception level, as `id_aa64pfr0` and `ctr`.
+    pub fn short_name(self) -> &'static str
+        ensures { result.now ≡ short_name_of self }
+    {
+        let name = self.name();
+        &name[..name.len() - "_el1".len()]
+    }
+
+    /// Whether the register is one of those that the manual calls ID registers, whose names begin with `id_`.
+    pub fn is_id_register(self) -> bool
+        ensures { result ≡ is_id_register self }
+    {
+        self.name().as_bytes().starts_with(b"id_")
     }
 
     /// The register with this name; `None` where no register has it.
@@ -149,16 +154,4 @@ impl SysReg {
             .copied()
             .find(|register| register.name().as_bytes() == name)
     }
-}
-
-/// One number of a register's five (Linux, `sys_reg`).
-fn encode(op0: u32, op1: u32, crn: u32, crm: u32, op2: u32) -> u32
-    requires op0 { op0 < 4 }
-    requires op1 { op1 < 8 }
-    requires crn { crn < 16 }
-    requires crm { crm < 16 }
-    requires op2 { op2 < 8 }
-    ensures { result ≡ encoded op0 op1 crn crm op2 }
-{
-    (op0 << 19) + (op1 << 16) + (crn << 12) + (crm << 8) + (op2 << 5)
 }

@@ -1,5 +1,5 @@
 -- The lemmas of this crate.
 pub mod First
+pub mod Overriding
 pub mod Places
-pub mod Positions
 pub mod Tables

@@ -13,7 +13,7 @@ use Rattle.armcaps_tables.specs.Facts.{counts_from_zero, rises, row_holds, names
 use Rattle.armcaps_tables.proofs.Tables.{tables}
 
 -- both sides of a test that holds
-both : (a b : Bool) → (a && b) ≡ true → (a ≡ true) × (b ≡ true)
+pub both : (a b : Bool) → (a && b) ≡ true → (a ≡ true) × (b ≡ true)
 both true b h = (refl, h)
 both false b h = absurd (false≢true h)
 
@@ -45,7 +45,7 @@ none_at test (y ∷ ys) zero x fails at =
 none_at test (y ∷ ys) (suc i) x fails at = none_at test ys i x (neither (test y) (list_any test ys) fails).1 at
 
 -- rows that rise from an end leave it within the word
-rises_within : (end : ℕ) (rows : List Row) → rises end rows ≡ true → end ≤ 64
+pub rises_within : (end : ℕ) (rows : List Row) → rises end rows ≡ true → end ≤ 64
 rises_within end [] rise = leb-true end 64 rise
 rises_within end (row ∷ rows) rise =
     let parts : (nat_le end row.shift ≡ true) × (rises (row.shift + row.width) rows ≡ true) = both (nat_le end row.shift) (rises (row.shift + row.width) rows) rise in
@@ -89,10 +89,10 @@ differ_at (first ∷ rows) (suc i) (suc j) one other differ before at later =
     differ_at rows i j one other (both (not (list_any named rows)) (names_differ rows) differ).1 (omega arith) at later
 
 -- the three parts of the test
-rise_of : (reg : SysReg) → rises 0 (rows_of reg) ≡ true
+pub rise_of : (reg : SysReg) → rises 0 (rows_of reg) ≡ true
 rise_of reg = (both (rises 0 (rows_of reg)) (list_all row_holds (rows_of reg)) (both (rises 0 (rows_of reg) && list_all row_holds (rows_of reg)) (names_differ (rows_of reg)) (tables reg)).0).0
 
-hold_of : (reg : SysReg) → list_all row_holds (rows_of reg) ≡ true
+pub hold_of : (reg : SysReg) → list_all row_holds (rows_of reg) ≡ true
 hold_of reg = (both (rises 0 (rows_of reg)) (list_all row_holds (rows_of reg)) (both (rises 0 (rows_of reg) && list_all row_holds (rows_of reg)) (names_differ (rows_of reg)) (tables reg)).0).1
 
 names_of : (reg : SysReg) → names_differ (rows_of reg) ≡ true
@@ -104,7 +104,7 @@ implied true b h is = not_true b h
 implied false b h is = absurd (false≢true is)
 
 -- the parts of the test of a row
-first_of : (a b c d : Bool) → (a && b && c && d) ≡ true → (a ≡ true) × (b ≡ true) × (c ≡ true) × (d ≡ true)
+pub first_of : (a b c d : Bool) → (a && b && c && d) ≡ true → (a ≡ true) × (b ≡ true) × (c ≡ true) × (d ≡ true)
 first_of a b c d h =
     let last : ((a && b && c) ≡ true) × (d ≡ true) = both (a && b && c) d h in
     let third : ((a && b) ≡ true) × (c ≡ true) = both (a && b) c last.0 in

@@ -1,14 +1,10 @@
 //! How many fields the tables have.
-#![tactic(auto, unfolding(crate::specs::Overriding::rows_before, crate::specs::Rows::id_aa64pfr0_rows, crate::specs::Rows::id_aa64pfr1_rows, crate::specs::Rows::id_aa64zfr0_rows, crate::specs::Rows::id_aa64smfr0_rows, crate::specs::Rows::id_aa64dfr0_rows, crate::specs::Rows::id_aa64isar0_rows, crate::specs::Rows::id_aa64isar1_rows, crate::specs::Rows::id_aa64isar2_rows, crate::specs::Rows::id_aa64mmfr0_rows, crate::specs::Rows::id_aa64mmfr1_rows, crate::specs::Rows::id_aa64mmfr2_rows, crate::specs::Rows::id_aa64mmfr3_rows, crate::specs::Rows::ctr_rows, crate::specs::Rows::dczid_rows))]
+#![tactic(auto, unfolding(crate::specs::Rows::id_aa64pfr0_rows, crate::specs::Rows::id_aa64pfr1_rows, crate::specs::Rows::id_aa64zfr0_rows, crate::specs::Rows::id_aa64smfr0_rows, crate::specs::Rows::id_aa64dfr0_rows, crate::specs::Rows::id_aa64isar0_rows, crate::specs::Rows::id_aa64isar1_rows, crate::specs::Rows::id_aa64isar2_rows, crate::specs::Rows::id_aa64mmfr0_rows, crate::specs::Rows::id_aa64mmfr1_rows, crate::specs::Rows::id_aa64mmfr2_rows, crate::specs::Rows::id_aa64mmfr3_rows, crate::specs::Rows::ctr_rows, crate::specs::Rows::dczid_rows))]
 
 ghost use Rattle.std.specs.Prelude.{◌≡◌, ◌≤◌, length};
-ghost use Rattle.armcaps_tables.specs.Overriding.{rows_before};
 ghost use Rattle.armcaps_tables.specs.Rows.{rows_of};
 
 use armcaps_enc::SysReg;
-
-// The number of fields of all registers together.
-pub(crate) const ROWS: usize = 123;
 
 /// The number of a register's fields in its table: 0 for the registers that are not tracked.
 pub fn count(reg: SysReg) -> usize
@@ -31,27 +27,5 @@ pub fn count(reg: SysReg) -> usize
         SysReg::IdAa64Mmfr3El1 => 2,
         SysReg::CtrEl0 => 8,
         SysReg::DczidEl0 => 2,
-    }
-}
-
-// The number of fields of the registers before this one.
-pub(crate) fn fields_before(reg: SysReg) -> usize
-    ensures { result ≡ rows_before reg }
-{
-    match reg {
-        SysReg::MidrEl1 | SysReg::MpidrEl1 | SysReg::RevidrEl1 | SysReg::IdAa64Pfr0El1 => 0,
-        SysReg::IdAa64Pfr1El1 => 16,
-        SysReg::IdAa64Zfr0El1 => 22,
-        SysReg::IdAa64Smfr0El1 => 31,
-        SysReg::IdAa64Dfr0El1 => 39,
-        SysReg::IdAa64Isar0El1 => 46,
-        SysReg::IdAa64Isar1El1 => 60,
-        SysReg::IdAa64Isar2El1 => 76,
-        SysReg::IdAa64Mmfr0El1 => 81,
-        SysReg::IdAa64Mmfr1El1 => 91,
-        SysReg::IdAa64Mmfr2El1 => 102,
-        SysReg::IdAa64Mmfr3El1 => 111,
-        SysReg::CtrEl0 => 113,
-        SysReg::DczidEl0 => 121,
     }
 }

@@ -12,7 +12,7 @@ pub use core_regs::CoreRegs;
 pub use counts::count;
 pub use field_row::FieldRow;
 pub use overrides::Overrides;
-pub use table::{find, row, tables_hold};
+pub use table::{field, find, row, tables_hold};
 
 #[cfg(test)]
 mod tests;

@@ -25,6 +25,17 @@ pub fn row(reg: SysReg, index: usize) -> Option<FieldRow>
     row_of_table(reg, index)
 }
 
+/// A register's field by its place in the table, from 0.
+pub fn field(reg: SysReg, index: usize) -> FieldRow
+    requires { index < length (rows_of reg) }
+    ensures row { slice_get (rows_of reg) index ≡ Some (row_of result) }
+    ensures reg { result.reg ≡ reg }
+    ensures safe { IsTrue (field_fits result.span.signed result.span.width result.safe) }
+    ensures unsigned { result.rule ≡ HigherOrZero → result.span.signed ≡ false }
+{
+    row(reg, index).unwrap()
+}
+
 // The row that the register's own table has.
 fn row_of_table(reg: SysReg, index: usize) -> Option<FieldRow>
     ensures row { option_map row_of result ≡ slice_get (rows_of reg) index }
@@ -67,7 +78,7 @@ fn is_named(reg: SysReg, index: usize, name: &[u8]) -> bool
     requires { index < length (rows_of reg) }
     ensures { (other : Row) → result ≡ has_name name.now (slice_index_or (rows_of reg) index other) }
 {
-    row(reg, index).unwrap().name.as_bytes() == name
+    field(reg, index).name.as_bytes() == name
 }
 
 /// Of every table: the fields of a register stand in rising order, have no bit in common and lie within its 64 bits; each

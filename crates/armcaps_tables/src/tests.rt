@@ -27,6 +27,11 @@ fn words_and_overrides_are_kept(rt: HostRuntime) {
     assert_eq!(rt; core.get(SysReg::CtrEl0), 0x8444_c004);
     assert_eq!(rt; core.get(SysReg::DczidEl0), 0);
 
+    core.set_vls(0b11);
+    core.set(SysReg::DczidEl0, 4);
+    assert_eq!(rt; core.vls(), 3);
+    assert_eq!(rt; CoreRegs::zero().vls(), 0);
+
     let mut overrides = Overrides::none();
     assert!(rt; 4 < count(SysReg::IdAa64Pfr0El1) && 0 < count(SysReg::IdAa64Isar0El1));
     overrides.set(SysReg::IdAa64Isar0El1, 0, 0x11);
