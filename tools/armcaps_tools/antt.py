@@ -1,7 +1,7 @@
 """Reads the tables in the definitions of the proved crates (crates/*/specs/*.antt), so that no tool keeps a table of its own.
 
-It knows as much of the language as tables are written in: equations by cases, application, records and their updates,
-lists, numbers, strings, `codes`, `pos` and `negsuc`. A definition is read only when its value is asked for.
+It knows as much of the language as tables are written in: equations by cases, application, records and their updates, lists,
+numbers, strings, `codes`, `pos` and `negsuc`, and a row's place by its name. A definition is read only when its value is asked for.
 """
 
 import pathlib
@@ -92,13 +92,15 @@ class Definitions:
     """The definitions of some files: each name's equations, in their order."""
 
     def __init__(self, *paths):
-        self.equations = {}
+        self.equations, self.constructors = {}, set()
         for path in paths:
             self._read(pathlib.Path(path).read_text(encoding="utf-8"))
 
     def _read(self, text):
         for block in re.split(r"\n(?=\S)", text):
             head = re.match(r"[^\W\d][\w'-]*", block)
+            if re.match(r"(pub )?data ", block):
+                self.constructors.update(re.findall(r"^ +(?:pub )?([^\W\d][\w'-]*) :", block, re.MULTILINE))
             if head and head.group() not in KEYWORDS:
                 self.equations.setdefault(head.group(), []).append(block)
 
@@ -125,11 +127,10 @@ class Definitions:
         """The constructors by which a definition of one argument goes, in their order."""
         return [tokens(equation.partition("=")[0])[1][1] for equation in self.equations[name]]
 
-    @staticmethod
-    def _match(patterns, arguments):
+    def _match(self, patterns, arguments):
         scope = {}
         for pattern, argument in zip(patterns, arguments):
-            if pattern[0].isupper():
+            if pattern[0].isupper() or pattern in self.constructors:
                 if argument != pattern:
                     return None
             elif pattern != "_":
@@ -174,6 +175,13 @@ class Definitions:
             return -1 - arguments[0]
         if name in ("true", "false") and not arguments:
             return name == "true"
+        if name == "has_name" and len(arguments) == 1:
+            return arguments[0]
+        if name == "position_or_len" and len(arguments) == 2:
+            names = [row["name"] for row in arguments[1]]
+            return names.index(arguments[0]) if arguments[0] in names else len(names)
+        if name in self.constructors and not arguments:
+            return name
         if name in self.equations:
             return self.value(name, *arguments)
         if name.rsplit(".", 1)[-1][:1].isupper():

@@ -128,6 +128,6 @@ def tests(name):
         return {}
     found = {}
     for row in table(name):
-        parts = [re.fullmatch(r"(\w+)\.(\w+) >= (-?\d+)", part) for part in row["tests"].split(" or ")]
+        parts = [re.match(r"(\w+)\.(\w+) >= (-?\d+)", part) for part in row["tests"].split(" or ")]
         found[row["name"]] = (row, [Test(*part.group(1, 2), int(part.group(3))) for part in parts if part])
     return found
