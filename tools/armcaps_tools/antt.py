@@ -67,6 +67,9 @@ class Parser:
         if text == "(":
             inner = self.term()
             self.take(")")
+            while self.peek()[1] == ".":
+                self.take()
+                inner = ("part", inner, self.take()[1])
             return inner
         if text == "record":
             return self.record()
@@ -97,7 +100,7 @@ class Definitions:
             self._read(pathlib.Path(path).read_text(encoding="utf-8"))
 
     def _read(self, text):
-        for block in re.split(r"\n(?=\S)", text):
+        for block in re.split(r"\n(?=[^\s}])", text):
             head = re.match(r"[^\W\d][\w'-]*", block)
             if re.match(r"(pub )?data ", block):
                 self.constructors.update(re.findall(r"^ +(?:pub )?([^\W\d][\w'-]*) :", block, re.MULTILINE))
@@ -158,6 +161,8 @@ class Definitions:
         if kind == "join":
             left, right = self._evaluate(term[2], scope), self._evaluate(term[3], scope)
             return [left] + right if term[1] == "∷" else left + right
+        if kind == "part":
+            return self._evaluate(term[1], scope)[term[2]]
         base = dict(self._evaluate(term[1], scope)) if term[1] else {}
         return {**base, **{name: self._evaluate(part, scope) for name, part in term[2]}}
 

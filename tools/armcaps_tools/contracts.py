@@ -57,7 +57,7 @@ def definitions_of(path, crate):
     """The definitions of one file, in their order. One without a comment of its own shares that of the one before it."""
     text = path.read_text(encoding="utf-8")
     found, comment, last = [], [], ""
-    for block in re.split(r"\n(?=\S)", text):
+    for block in re.split(r"\n(?=[^\s}])", text):
         if block.startswith("--"):
             comment.append(block.lstrip("- ").strip())
             if "\n\n" in block:
