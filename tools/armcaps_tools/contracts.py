@@ -5,7 +5,7 @@ import pathlib
 import re
 
 NAME = r"[^\W\d][\w'-]*"
-IMPORT = re.compile(r"(?:ghost )?(?:pub )?use Rattle\.(\w+)\.specs\.([\w.]+)\.\{([^}]*)\}")
+IMPORT = re.compile(r"(?:ghost )?(pub )?use Rattle\.(\w+)\.specs\.([\w.]+)\.\{([^}]*)\}")
 ITEM = re.compile(rf"(?:(abbrev|unfoldable)\s+)?(pub\s+)?(?:(record|data)\s+)?({NAME})")
 # what every file of definitions may begin a line with beside a definition
 OTHER = ("use", "pub use", "pub mod", "mod", "open", "syntax", "ruleset")
@@ -41,11 +41,17 @@ class Call:
 def imports_of(text):
     """What a file imports from definitions: by each name, the crate and file where it stands."""
     found = {}
-    for crate, file, names in IMPORT.findall(text):
+    for _, crate, file, names in IMPORT.findall(text):
         for name in re.split(r"[,\s]+", names):
             if name:
                 found[name] = (crate, file, name)
     return found
+
+
+def passed_on_by(path, crate):
+    """What a file imports and gives on: each name as it is found there, and where it stands."""
+    passed = "\n".join(match.group() for match in IMPORT.finditer(path.read_text(encoding="utf-8")) if match.group(1))
+    return {(crate, path.stem, name): key for name, key in imports_of(passed).items()}
 
 
 def words(text):
@@ -189,11 +195,12 @@ class Citations:
     """All definitions of the repository, and which of them public clauses cite."""
 
     def __init__(self, top):
-        self.definitions, self.calls = {}, []
+        self.definitions, self.calls, self.passed_on = {}, [], {}
         for crate in crates(top):
             for path in sorted((top / "crates" / crate / "specs").glob("*.antt")):
                 if path.stem != "Lib":
                     self.definitions.update({definition.key: definition for definition in definitions_of(path, crate)})
+                    self.passed_on.update(passed_on_by(path, crate))
             self.calls += public_calls(top, crate)
         for call in self.calls:
             for key in self.cited(call):
@@ -202,8 +209,14 @@ class Citations:
 
     def cited(self, call):
         """What the clauses of a call cite by themselves."""
-        keys = {call.imports[word] for word in words(call.clauses) if word in call.imports}
+        keys = {self.home(call.imports[word]) for word in words(call.clauses) if word in call.imports}
         return [key for key in keys if key in self.definitions]
+
+    def home(self, key):
+        """Where a name stands that files may pass on."""
+        while key in self.passed_on:
+            key = self.passed_on[key]
+        return key
 
     def closure(self, calls):
         """What clauses cite, with what that cites in turn."""
@@ -212,5 +225,5 @@ class Citations:
             key = waiting.pop()
             if key not in reached and key in self.definitions:
                 reached.add(key)
-                waiting += self.definitions[key].cites
+                waiting += map(self.home, self.definitions[key].cites)
         return reached

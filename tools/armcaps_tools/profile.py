@@ -73,13 +73,13 @@ def table(name):
         return list(csv.DictReader(file, delimiter="\t"))
 
 
-@functools.cache
+@functools.lru_cache(maxsize=None)
 def registers():
     numbers = ("op0", "op1", "crn", "crm", "op2")
     return [Register(**{name: int(text) if name in numbers else text for name, text in row.items()}) for row in table("registers")]
 
 
-@functools.cache
+@functools.lru_cache(maxsize=None)
 def fields():
     return [
         Field(
@@ -97,23 +97,23 @@ def fields():
     ]
 
 
-@functools.cache
+@functools.lru_cache(maxsize=None)
 def fields_of(register):
     return [field for field in fields() if field.register == register]
 
 
-@functools.cache
+@functools.lru_cache(maxsize=None)
 def tracked():
     """The names of the registers that have a system value, which are those with fields."""
     return [register.name for register in registers() if fields_of(register.name)]
 
 
-@functools.cache
+@functools.lru_cache(maxsize=None)
 def by_name():
     return {register.name: register for register in registers()}
 
 
-@functools.cache
+@functools.lru_cache(maxsize=None)
 def aliases():
     """What each alias of a command line sets to 0."""
     found = {}
