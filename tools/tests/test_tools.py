@@ -113,6 +113,7 @@ class Lines(unittest.TestCase):
         self.assertIn("which one is its number", self.words("CTR_EL0 0xd801 0x84448004"))
         self.assertIn("two cores without a heading", self.words("CTR_EL0 0x1\nCTR_EL0 0x2"))
         self.assertIn("are not 136", self.words("40200000: 00000000410fd034 0000000080000000  4..A"))
+        self.assertIn("has a heading, and no register", self.words("core 0\nCTR_EL0 0x1\ncore 1\ncore 2\nCTR_EL0 0x1"))
         self.assertIn("before the first core's heading", self.words("CTR_EL0 0x1\ncore 0\nCTR_EL0 0x1"))
         sanity = "CPU features: SANITY CHECK: Unexpected variation in SYS_CTR_EL0. Boot CPU: 0x84448004, CPU1: 0x8444c004"
         self.assertIn("has no register", self.words(sanity))
@@ -134,6 +135,9 @@ class Lines(unittest.TestCase):
         lines = "".join(f"core {core}\nCTR_EL0 0x1\n" for core in range(4))
         answer = tool("dump2text", "--missing-zero", "--boot", "1", "--late", "0", "--absent", "3", "-", given=lines.encode())
         self.assertEqual(answer.stdout.split(b"\n")[-6:], [b"boot 1", b"online 2", b"finalise", b"online 0", b"end", b""])
+        answer = tool("dump2text", "--missing-zero", "--late", "1", "--late", "2,3", "-", given=lines.replace("core 3", "core 7").encode())
+        self.assertEqual(answer.stdout.split(b"\n")[-7:-1], [b"boot 0", b"finalise", b"online 1", b"online 2", b"online 3", b"end"])
+        self.assertIn(b"core 3 is standard input, core 7", answer.stderr)
 
 
 class Explained(unittest.TestCase):
