@@ -1,4 +1,5 @@
+-- What the contracts of this crate cite.
 pub mod Causes
-pub mod Streams
-pub mod Refusals
+pub mod Counted
 pub mod Memory
+pub mod Streams

@@ -14,7 +14,8 @@ pub record SourceState : Type 0 where
   pub calls : ℕ
   pub faults : ℕ
 
--- a sink: the bytes that it holds, how many it can hold, how many it takes at most in one call, and the same of its calls
+-- a sink: the bytes that it holds, how many it can hold, how many it takes at most in one call, and of its calls what
+-- a source with faults has
 pub record SinkState : Type 0 where
   pub held : List ℕ
   pub room : ℕ

@@ -1,5 +1,5 @@
 -- What a source gave and what a sink got. Bytes that are not told (`None`) claim nothing.
-use Rattle.std.specs.Prelude.{◌≡◌, ℕ, ◌≤◌, List, [], ◌++◌, length, ⊤, Option, None, Some}
+use Rattle.std.specs.Prelude.{◌≡◌, ℕ, ◌<◌, ◌≤◌, List, [], ◌++◌, length, Option, None, Some, IfSome}
 pub use Rattle.std.specs.Io.KnownBytes.{Keeps, Appends, Consumes, IsAtEnd}
 
 -- a sink got a first part of the bytes, which may be all of them or none
@@ -11,8 +11,12 @@ pub record AppendsPrefix (old new : Option (List ℕ)) (piece : List ℕ) : Type
 
 -- a source was read to its end: these are all the bytes that it had left, and none is left
 abbrev pub GivesAll : Option (List ℕ) → Option (List ℕ) → List ℕ → Type 0
-GivesAll None new bytes = ⊤
+GivesAll None new bytes = IsAtEnd new
 GivesAll (Some xs) new bytes = (bytes ≡ xs) × (new ≡ Some [])
+
+-- a source had more than n bytes left
+abbrev pub HasMoreThan : Option (List ℕ) → ℕ → Type 0
+HasMoreThan left n = IfSome left (λ bytes. n < length bytes)
 
 -- a source gave n bytes
 pub record GivesCount (old new : Option (List ℕ)) (n : ℕ) : Type 0 where

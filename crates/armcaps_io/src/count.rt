@@ -1,3 +1,5 @@
+//! Counts of 64 bits that never fall.
+
 ghost use Rattle.std.specs.Prelude.{◌≡◌};
 ghost use Rattle.armcaps_io.specs.Causes.{raised};
 

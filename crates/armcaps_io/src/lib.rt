@@ -2,6 +2,7 @@
 #![tactic(auto)]
 
 mod count;
+mod counted;
 mod mem_sink;
 mod mem_source;
 mod reading;
@@ -12,9 +13,10 @@ mod source;
 mod sure_source;
 mod writing;
 
+pub use counted::Counted;
 pub use mem_sink::MemSink;
 pub use mem_source::MemSource;
-pub use reading::{InFault, read_to_limit};
+pub use reading::{InFault, read_on, read_to_limit};
 pub use real_sink::RealSink;
 pub use real_source::RealSource;
 pub use sink::Sink;

@@ -1,3 +1,5 @@
+//! A sink in memory.
+
 ghost use Rattle.std.specs.Prelude.{◌≡◌, ◌↔◌, ◌⊎◌, ◌-◌, ◌<◌, ◌≤◌, [], ◌++◌, Some, length, take, min, IfOk, IsErr, OnErr, Contains, is_err, if◌then◌else◌};
 ghost use Rattle.armcaps_io.specs.Causes.{raised};
 
@@ -8,7 +10,7 @@ use std::alloc::{AllocError, Global};
 use std::marker::Model;
 
 /// A sink that keeps its bytes in memory, and whose calls fail where it was told that they do.
-#[derive(Drop)]
+#[derive(Debug, Drop)]
 pub struct MemSink {
     held: Vec<u8>,
     room: usize,
@@ -24,7 +26,14 @@ impl Model for MemSink {
 
     ghost Value = { SinkState };
 
-    ghost view = { λ s. record { held = s.held.items; room = s.room; piece = s.piece; fails = s.fails.items; calls = s.calls; faults = s.faults } };
+    ghost view = { λ s. record {
+      held = s.held.items;
+      room = s.room;
+      piece = s.piece;
+      fails = s.fails.items;
+      calls = s.calls;
+      faults = s.faults;
+    } };
 
     ghost invariant = { λ s. (vec_len s.held ≤ s.room) × (s.room ≤ vec_capacity s.held) × (0 < s.piece) };
 }
@@ -72,14 +81,18 @@ impl Sink for MemSink {
 
     fn write(&mut self, piece: &[u8]) -> Result<usize, Failed>
         ensures call { self.new.calls ≡ raised self.old.calls }
-        ensures fails { IsErr result ↔ (Contains self.old.fails self.new.calls ⊎ ((0 < length piece.now) × (length self.old.held ≡ self.old.room))) }
-        ensures count { IfOk result (λ n. n ≡ min self.old.piece (min (length piece.now) (self.old.room - length self.old.held))) }
+        ensures fails { IsErr result ↔
+            (Contains self.old.fails self.new.calls ⊎
+            ((0 < length piece.now) × (length self.old.held ≡ self.old.room))) }
+        ensures count { IfOk result (λ n.
+            n ≡ min self.old.piece (min (length piece.now) (self.old.room - length self.old.held))) }
         ensures some { IfOk result (λ n. 0 < length piece.now → 0 < n) }
         ensures appended { IfOk result (λ n. self.new.held ≡ self.old.held ++ take n piece.now) }
         ensures kept { OnErr result (self.new.held ≡ self.old.held) }
         ensures never_falls { self.old.faults ≤ self.new.faults }
         ensures faults { self.new.faults ≡ (if is_err result then raised self.old.faults else self.old.faults) }
-        ensures settings { (self.new.room ≡ self.old.room) × (self.new.piece ≡ self.old.piece) × (self.new.fails ≡ self.old.fails) }
+        ensures settings { (self.new.room ≡ self.old.room) × (self.new.piece ≡ self.old.piece) ×
+            (self.new.fails ≡ self.old.fails) }
     {
         self.calls = raise(self.calls);
         let room_left = self.room - self.held.len();

@@ -1,3 +1,5 @@
+//! A source in memory whose calls fail on demand.
+
 ghost use Rattle.std.specs.Prelude.{◌≡◌, ◌↔◌, ◌<◌, ◌≤◌, [], ◌++◌, Some, length, take, min, IfOk, IsErr, OnErr, Contains, is_err, if◌then◌else◌};
 ghost use Rattle.armcaps_io.specs.Causes.{raised};
 
@@ -7,7 +9,7 @@ use crate::sure_source::SureSource;
 use std::marker::Model;
 
 /// A source over bytes in memory whose calls fail where it was told that they do.
-#[derive(Drop)]
+#[derive(Debug, Clone, Drop)]
 pub struct MemSource {
     supply: SureSource,
     fails: Vec<u64>,
@@ -20,7 +22,13 @@ impl Model for MemSource {
 
     ghost Value = { SourceState };
 
-    ghost view = { λ s. record { left = s.supply.left; piece = s.supply.piece; fails = s.fails.items; calls = s.calls; faults = s.faults } };
+    ghost view = { λ s. record {
+      left = s.supply.left;
+      piece = s.supply.piece;
+      fails = s.fails.items;
+      calls = s.calls;
+      faults = s.faults;
+    } };
 }
 
 impl MemSource {

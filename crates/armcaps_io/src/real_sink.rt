@@ -1,105 +1,147 @@
-ghost use Rattle.std.specs.Prelude.{◌≡◌, ◌<◌, ◌≤◌, None, length, IfOk, is_err, if◌then◌else◌};
-ghost use Rattle.armcaps_io.specs.Causes.{raised};
+//! Bytes to a writer of std.
 
-use crate::count::raise;
+ghost use Rattle.std.specs.Prelude.{◌≡◌, ◌<◌, ◌≤◌, ◌⊎◌, None, length, take, IfOk, OnOk, OnErr};
+ghost use Rattle.std.specs.Io.{WritesAtMost};
+ghost use Rattle.std.specs.Io.KnownBytes.{WriteAppends};
+ghost use Rattle.armcaps_io.specs.Causes.{raised};
+ghost use Rattle.armcaps_io.specs.Streams.{Appends, AppendsPrefix};
+
+use crate::counted::Counted;
 use crate::sink::Sink;
 use crate::source::Failed;
-use std::io::{self, Write};
-use std::marker::Model;
+use std::io::{self, ErrorKind, Write};
 
-/// A sink over a writer of std, seen as the count of its faults. It tells nothing of the bytes.
-#[derive(Drop)]
-pub struct RealSink<W> {
-    writer: W,
-    faults: u64,
-}
+/// A sink over a writer of std. It tells nothing of the bytes: after a failure, real streams may
+/// have taken some. After each write it flushes the writer, so that no byte waits in a buffer.
+pub type RealSink<W> = Counted<W>;
 
-impl<W> Model for RealSink<W> {
-    ghost use Rattle.std.specs.Prelude.{ℕ};
-
-    ghost Value = { ℕ };
-
-    ghost view = { λ s. s.faults };
-}
-
-impl<W> RealSink<W> {
-    /// A sink over `writer`, with no fault so far.
-    pub fn new(writer: W) -> RealSink<W>
-        ensures { result ≡ 0 }
-    {
-        RealSink { writer, faults: 0 }
-    }
-}
-
-impl<W: Write> Sink for RealSink<W> {
+impl<W: Write> Sink for Counted<W> {
     ghost held = { λ _. None };
 
-    ghost faults = { λ count. count };
+    ghost faults = { λ s. s.faults };
 
     fn write(&mut self, piece: &[u8]) -> Result<usize, Failed>
         ensures within { IfOk result (λ n. n ≤ length piece.now) }
         ensures some { IfOk result (λ n. 0 < length piece.now → 0 < n) }
-        ensures never_falls { self.old ≤ self.new }
-        ensures faults { self.new ≡ (if is_err result then raised self.old else self.old) }
+
+        // What the writer itself got: after a fault of the flush, it has taken a part.
+        ensures bytes { IfOk result (λ n.
+            Appends (W.contents self.old.inner) (W.contents self.new.inner) (take n piece.now)) }
+        ensures prefix { OnErr result
+            (AppendsPrefix (W.contents self.old.inner) (W.contents self.new.inner) piece.now) }
+
+        // The write and the flush each count as a fault where they fail.
+        ensures never_falls { self.old.faults ≤ self.new.faults }
+        ensures quiet { OnOk result (self.new.faults ≡ self.old.faults) }
+        ensures faults { OnErr result ((self.new.faults ≡ raised self.old.faults) ⊎
+            (self.new.faults ≡ raised (raised self.old.faults))) }
     {
-        match write_through(&mut self.writer, piece) {
-            Ok(count) if count > 0 || piece.is_empty() => Ok(count),
-            _ => {
-                self.faults = raise(self.faults);
-                Err(Failed)
-            }
-        }
+        let written = write_some(&mut self.inner, piece);
+        let flushed = self.inner.flush();
+        let written = self.count(written);
+        self.count(flushed)?;
+        written
     }
 }
 
-// Writes a part of `piece` and flushes it, so that no byte of it waits in a buffer.
-fn write_through<W: Write>(writer: &mut W, piece: &[u8]) -> io::Result<usize>
-    ensures { IfOk result (λ n. n ≤ length piece.now) }
+// One write of the first bytes of `piece`. That the writer takes nothing of a piece is an error.
+fn write_some<W: Write>(writer: &mut W, piece: &[u8]) -> io::Result<usize>
+    ensures within { WritesAtMost result piece.now }
+    ensures some { IfOk result (λ n. 0 < length piece.now → 0 < n) }
+    ensures bytes { WriteAppends (W.contents writer.old) (W.contents writer.new) result piece.now }
 {
-    let count = writer.write(piece)?;
-    writer.flush()?;
-    Ok(count)
+    match writer.write(piece) {
+        Ok(0) if !piece.is_empty() => Err(io::Error::from(ErrorKind::WriteZero)),
+        written => written,
+    }
 }
 
 #[cfg(test)]
 mod tests {
     use super::*;
-    use std::io::ErrorKind;
+    use std::test::Fail;
 
-    // Takes at most two bytes in each call, and counts the flushes, of which the second fails.
+    // Keeps what is written until the flush, at most 64 bytes at once, and lists its calls.
     #[derive(Drop)]
-    struct Faulty {
-        flushes: u8,
+    struct Buffered {
+        waiting: Vec<u8>,
+        out: Vec<u8>,
+        calls: Vec<u8>,
     }
 
-    impl Write for Faulty {
+    impl Write for Buffered {
         fn write(&mut self, piece: &[u8]) -> io::Result<usize> {
-            match piece {
-                b"none" => Ok(0),
-                b"fault" => Err(io::Error::from(ErrorKind::Other)),
-                _ => Ok(piece.len().min(2)),
-            }
+            self.calls.push(b'w')?;
+            let count = piece.len().min(64);
+            self.waiting.extend_from_slice(&piece[..count])?;
+            Ok(count)
         }
 
         fn flush(&mut self) -> io::Result<()> {
-            self.flushes = self.flushes.saturating_add(1);
-            if self.flushes == 2 {
-                Err(io::Error::from(ErrorKind::Other))
-            } else {
+            self.calls.push(b'f')?;
+            self.out.extend_from_slice(&self.waiting)?;
+            self.waiting.clear();
+            Ok(())
+        }
+    }
+
+    #[test]
+    fn writes_once_and_then_flushes(rt: HostRuntime) -> Result<(), Fail> {
+        let mut sink = RealSink::new(Buffered {
+            waiting: Vec::new(rt.alloc()),
+            out: Vec::new(rt.alloc()),
+            calls: Vec::new(rt.alloc()),
+        });
+        let piece = [b'x'; 100];
+        assert_eq!(rt; sink.write(&piece), Ok(64));
+        assert_eq!(rt; sink.write(&piece[64..]), Ok(36));
+        assert_eq!(rt; sink.inner.calls.as_slice(), b"wfwf".as_slice());
+        assert_eq!(rt; sink.inner.waiting.as_slice(), b"".as_slice());
+        assert_eq!(rt; sink.inner.out.as_slice(), piece.as_slice());
+        Ok(())
+    }
+
+    // Takes so many bytes at most, or fails; its flush may fail too.
+    #[derive(Drop)]
+    struct Answering {
+        takes: Option<usize>,
+        flushes: bool,
+    }
+
+    impl Write for Answering {
+        fn write(&mut self, piece: &[u8]) -> io::Result<usize> {
+            let most = self.takes.ok_or(io::Error::from(ErrorKind::Other))?;
+            Ok(piece.len().min(most))
+        }
+
+        fn flush(&mut self) -> io::Result<()> {
+            if self.flushes {
                 Ok(())
+            } else {
+                Err(io::Error::from(ErrorKind::Other))
             }
         }
     }
 
     #[test]
-    fn flushes_and_counts_what_fails(rt: HostRuntime) {
-        let mut sink = RealSink::new(Faulty { flushes: 0 });
-        assert_eq!(rt; sink.write(b"abc"), Ok(2));
-        assert_eq!(rt; sink.writer.flushes, 1);
-        assert_eq!(rt; sink.write(b"abc"), Err(Failed));
-        assert_eq!(rt; sink.write(b"none"), Err(Failed));
-        assert_eq!(rt; sink.write(b"fault"), Err(Failed));
+    fn counts_each_answer_that_fails(rt: HostRuntime) {
+        let cases = [
+            (Some(2), true, Ok(2), 0),
+            (Some(0), true, Err(Failed), 1),
+            (None, true, Err(Failed), 1),
+            (Some(2), false, Err(Failed), 1),
+            (Some(0), false, Err(Failed), 2),
+            (None, false, Err(Failed), 2),
+        ];
+        for (takes, flushes, answer, faults) in cases {
+            let mut sink = RealSink::new(Answering { takes, flushes });
+            assert_eq!(rt; sink.write(b"abc"), answer, "at {takes:?} {flushes}");
+            assert_eq!(rt; sink.faults, faults, "at {takes:?} {flushes}");
+        }
+        let mut sink = RealSink::new(Answering {
+            takes: Some(2),
+            flushes: true,
+        });
         assert_eq!(rt; sink.write(b""), Ok(0));
-        assert_eq!(rt; sink.faults, 3);
     }
 }

@@ -1,59 +1,37 @@
+//! Bytes from a reader of std.
+
 ghost use Rattle.std.specs.Prelude.{◌≡◌, ◌≤◌, None, length, IfOk, is_err, if◌then◌else◌};
+ghost use Rattle.std.specs.Io.KnownBytes.{ReadConsumes};
 ghost use Rattle.armcaps_io.specs.Causes.{raised};
 
-use crate::count::raise;
+use crate::counted::Counted;
 use crate::source::{Failed, Source};
-use std::io::Read;
-use std::marker::Model;
+use std::io::{self, Read};
 
-/// A source over a reader of std, seen as the count of its faults. It tells nothing of the bytes.
-#[derive(Drop)]
-pub struct RealSource<R> {
-    reader: R,
-    faults: u64,
-}
+/// A source over a reader of std. It tells nothing of the bytes: what a real stream gives is known
+/// to nobody before it comes. Its `read` gives what one read of the reader gave.
+pub type RealSource<R> = Counted<R>;
 
-impl<R> Model for RealSource<R> {
-    ghost use Rattle.std.specs.Prelude.{ℕ};
-
-    ghost Value = { ℕ };
-
-    ghost view = { λ s. s.faults };
-}
-
-impl<R> RealSource<R> {
-    /// A source over `reader`, with no fault so far.
-    pub fn new(reader: R) -> RealSource<R>
-        ensures { result ≡ 0 }
-    {
-        RealSource { reader, faults: 0 }
-    }
-}
-
-impl<R: Read> Source for RealSource<R> {
+impl<R: Read> Source for Counted<R> {
     ghost left = { λ _. None };
 
-    ghost faults = { λ count. count };
+    ghost faults = { λ s. s.faults };
 
     fn read(&mut self, buf: &mut [u8]) -> Result<usize, Failed>
         ensures within { IfOk result (λ n. n ≤ length buf.new) }
-        ensures never_falls { self.old ≤ self.new }
-        ensures faults { self.new ≡ (if is_err result then raised self.old else self.old) }
+        ensures bytes { ReadConsumes (R.remaining self.old.inner) (R.remaining self.new.inner) result buf.new }
+        ensures never_falls { self.old.faults ≤ self.new.faults }
+        ensures faults { self.new.faults ≡ (if is_err result then raised self.old.faults else self.old.faults) }
     {
-        match self.reader.read(buf) {
-            Ok(count) => Ok(count),
-            Err(_) => {
-                self.faults = raise(self.faults);
-                Err(Failed)
-            }
-        }
+        let answer = self.inner.read(buf);
+        self.count(answer)
     }
 }
 
 #[cfg(test)]
 mod tests {
     use super::*;
-    use std::io::{self, ErrorKind};
+    use std::io::ErrorKind;
 
     // Gives one byte at its first call, fails at the second, and has ended from then on.
     #[derive(Drop)]

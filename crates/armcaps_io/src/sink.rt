@@ -1,3 +1,5 @@
+//! Where bytes go.
+
 ghost use Rattle.std.specs.Prelude.{ℕ, ◌<◌, ◌≤◌, Option, List, length, take, IfOk, OnErr};
 ghost use Rattle.armcaps_io.specs.Causes.{Rose};
 ghost use Rattle.armcaps_io.specs.Streams.{Keeps, Appends};

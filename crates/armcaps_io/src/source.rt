@@ -1,10 +1,23 @@
+//! Where bytes come from.
+
 ghost use Rattle.std.specs.Prelude.{◌≡◌, ℕ, ◌<◌, ◌≤◌, Option, List, length, take, IfOk, OnErr};
 ghost use Rattle.armcaps_io.specs.Causes.{Rose};
 ghost use Rattle.armcaps_io.specs.Streams.{Keeps, Consumes, IsAtEnd};
 
+use std::error::Error;
+use std::fmt;
+
 /// The answer of a call of a source or a sink that failed.
 #[derive(Clone, Copy, Debug, PartialEq, Eq)]
 pub struct Failed;
+
+impl fmt::Display for Failed {
+    fn fmt<W: fmt::Write>(&self, f: &mut fmt::Formatter<W>) -> fmt::Result {
+        f.write_str("a call failed")
+    }
+}
+
+impl Error for Failed {}
 
 /// Gives bytes from the outside, a piece in each call.
 pub trait Source {

@@ -1,10 +1,12 @@
+//! A source in memory that never fails.
+
 ghost use Rattle.std.specs.Prelude.{◌≡◌, ◌<◌, ◌≤◌, [], ◌++◌, Some, length, take, min, IfOk, IsOk};
 
 use crate::source::{Failed, Source};
 use std::marker::Model;
 
 /// A source over bytes in memory that never fails.
-#[derive(Drop)]
+#[derive(Debug, Clone, Drop)]
 pub struct SureSource {
     bytes: Vec<u8>,
     place: usize,

@@ -1,13 +1,31 @@
+//! Writing a whole piece.
+
 ghost use Rattle.std.specs.Prelude.{◌≤◌, OnOk, OnErr};
 ghost use Rattle.armcaps_io.specs.Causes.{Rose};
 ghost use Rattle.armcaps_io.specs.Streams.{Appends, AppendsPrefix};
 
 use crate::sink::Sink;
 use crate::source::Failed;
+use std::error::Error;
+use std::fmt;
 
 /// A sink failed before it had taken all of a piece.
 #[derive(Clone, Copy, Debug, PartialEq, Eq)]
 pub struct WriteFault;
+
+impl fmt::Display for WriteFault {
+    fn fmt<W: fmt::Write>(&self, f: &mut fmt::Formatter<W>) -> fmt::Result {
+        f.write_str("write fault")
+    }
+}
+
+impl Error for WriteFault {}
+
+impl From<Failed> for WriteFault {
+    fn from(_failed: Failed) -> WriteFault {
+        WriteFault
+    }
+}
 
 /// Writes all of `piece`, in as many calls as the sink needs. It takes no memory.
 pub fn write_whole<O: Sink>(sink: &mut O, piece: &[u8]) -> Result<(), WriteFault>
@@ -18,10 +36,7 @@ pub fn write_whole<O: Sink>(sink: &mut O, piece: &[u8]) -> Result<(), WriteFault
 {
     let mut written = 0;
     while written < piece.len() {
-        match sink.write(&piece[written..]) {
-            Ok(count) => written += count,
-            Err(Failed) => return Err(WriteFault),
-        }
+        written += sink.write(&piece[written..])?;
     }
     Ok(())
 }
