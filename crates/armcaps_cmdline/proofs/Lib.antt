@@ -1,7 +1,6 @@
-pub mod Digits
-pub mod Pieces
-pub mod WordLemmas
-pub mod Names
-pub mod Assigning
-pub mod Reach
-pub mod Reading
+-- The lemmas of this crate.
+pub mod Assignments
+pub mod Fitting
+pub mod IdRegisters
+pub mod RemainingWords
+pub mod WordParts

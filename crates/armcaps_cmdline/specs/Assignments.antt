@@ -1,17 +1,18 @@
--- What the words of a command line assign to the rows of registers. Where no source is named, the rule is this project's own.
-use Rattle.std.specs.Prelude.{ℕ, ◌%◌, ◌^◌, ◌==◌, ◌&&◌, Bool, false, nat_eq, if◌then◌else◌, List, [], ◌∷◌, ◌++◌, length, map, filter, codes, find, position, Option}
+-- What the words of a command line assign to the rows of registers. Where no source is named, the rule is this
+-- project's own.
+use Rattle.std.specs.Prelude.{ℕ, ◌%◌, ◌^◌, ◌==◌, ◌&&◌, Bool, false, if◌then◌else◌, List, [], ◌∷◌, ◌++◌, length, map, codes, find, position, Option}
 use Prim.Native.String.{String}
 use Rattle.std.specs.Option.{option_map, option_map_or, option_and_then, option_to_list}
-use Rattle.std.specs.List.{flat_map, range_with_len, before_first, after_first, starts_with}
+use Rattle.std.specs.List.{flat_map, range_with_len, before_first, after_first}
 use Rattle.std.specs.Str.{bytes_eq}
-use Rattle.armcaps_enc.specs.Registers.{name_of, place_of, tracked}
+use Rattle.armcaps_enc.specs.Registers.{id_registers, place_of, short_name_of}
 use Rattle.armcaps_enc.specs.declared.register.SysReg.{SysReg}
 use Rattle.armcaps_enc.specs.declared.register.SysReg.TheVariants.{IdAa64Pfr0El1, IdAa64Pfr1El1, IdAa64Zfr0El1, IdAa64Smfr0El1, IdAa64Isar1El1, IdAa64Isar2El1}
 use Rattle.armcaps_tables.specs.Facts.{has_name}
 use Rattle.armcaps_tables.specs.Rows.{rows_of}
 use Rattle.armcaps_cmdline.specs.declared.alias.Alias.{Alias}
 use Rattle.armcaps_cmdline.specs.declared.alias.Alias.TheVariants.{NoSve, NoSme, NoBti, NoMte, NoMops, NoPauth}
-use Rattle.armcaps_cmdline.specs.Values.{value_of}
+use Rattle.armcaps_lex.specs.Digits.{value_of}
 use Rattle.armcaps_cmdline.specs.Words.{counted_words}
 
 -- a number for a row: the row's register, its place among the register's rows, and the number
@@ -29,17 +30,21 @@ pub record Setting : Type 0 where
 -- a number for the row that has a name; nothing where no row of the register has it
 abbrev pub assigned : SysReg → List ℕ → ℕ → List Assignment
 assigned register field number =
-    option_map_or (λ index. record { register = register; index = index; number = number } ∷ []) (position (has_name field) (rows_of register)) []
+    option_map_or (λ index. record { register = register; index = index; number = number } ∷ [])
+    (position (has_name field) (rows_of register)) []
 
 -- 0 for each row of a register
 abbrev pub zeros_for : SysReg → List Assignment
-zeros_for register = map (λ index. record { register = register; index = index; number = 0 }) (range_with_len 0 (length (rows_of register)))
+zeros_for register =
+    map (λ index. record { register = register; index = index; number = 0 })
+    (range_with_len 0 (length (rows_of register)))
 
 -- whether a field is this one
 abbrev pub is_field : SysReg → List ℕ → SysReg → List ℕ → Bool
 is_field register field other name = (place_of register == place_of other) && bytes_eq field name
 
--- what a field at 0 sets to 0 as well (own rule): without SVE there is none of its features and no SME, without SME none of SME's
+-- what a field at 0 sets to 0 as well (own rule): without SVE there is none of its features and no SME, without SME
+-- none of SME's
 abbrev pub dependents : SysReg → List ℕ → List Assignment
 dependents register field =
     if is_field register field IdAa64Pfr0El1 (codes "sve")
@@ -48,13 +53,16 @@ dependents register field =
 
 -- whether a number is 0 once it is cut to the width of the row that has a name (own rule: cut first, then judged)
 abbrev pub is_cut_to_zero : SysReg → List ℕ → ℕ → Bool
-is_cut_to_zero register field number = option_map_or (λ row. number % 2 ^ row.width == 0) (find (has_name field) (rows_of register)) false
+is_cut_to_zero register field number =
+    option_map_or (λ row. number % 2 ^ row.width == 0) (find (has_name field) (rows_of register)) false
 
 -- a setting written out: the number for its row and, where the row gets 0, the row's dependents
 abbrev pub assignments_to : Setting → List Assignment
 assignments_to setting =
     assigned setting.register setting.field setting.number
-    ++ (if is_cut_to_zero setting.register setting.field setting.number then dependents setting.register setting.field else [])
+    ++ (if is_cut_to_zero setting.register setting.field setting.number
+    then dependents setting.register setting.field
+    else [])
 
 -- the word of an alias (Linux, Documentation/admin-guide/kernel-parameters.txt, `arm64.nosve` and those beside it)
 abbrev pub alias_word : Alias → List ℕ
@@ -88,13 +96,10 @@ aliases = NoSve ∷ NoSme ∷ NoBti ∷ NoMte ∷ NoMops ∷ NoPauth ∷ []
 unfoldable pub alias_named : List ℕ → Option Alias
 alias_named word = find (λ alias. bytes_eq (alias_word alias) word) aliases
 
--- the registers that a word may name (own rule): the tracked ones whose names begin with `id_`, so neither CTR_EL0 nor DCZID_EL0
-abbrev pub id_registers : List SysReg
-id_registers = filter (λ register. starts_with nat_eq (name_of register) (codes "id_")) tracked
-
--- the register that a word names without `_el1`, as `id_aa64pfr0`
+-- the register that a word names without `_el1`, as `id_aa64pfr0` (own rule: an ID register, so neither CTR_EL0 nor
+-- DCZID_EL0)
 unfoldable pub register_of : List ℕ → Option SysReg
-register_of name = find (λ register. bytes_eq (name_of register) (name ++ codes "_el1")) id_registers
+register_of name = find (λ register. bytes_eq (short_name_of register) name) id_registers
 
 abbrev pub is_dot : ℕ → Bool
 is_dot byte = byte == 46
@@ -116,7 +121,8 @@ value_part word = after_first is_equals word
 abbrev pub setting_of : List ℕ → Option Setting
 setting_of word =
     option_and_then
-    (λ register. option_map (λ number. record { register = register; field = field_part word; number = number }) (value_of (value_part word)))
+    (λ register. option_map
+    (λ number. record { register = register; field = field_part word; number = number }) (value_of (value_part word)))
     (register_of (register_part word))
 
 -- the settings that a word stands for: those of an alias, or its own

@@ -1,16 +1,13 @@
--- The words of a command line. That spaces and tabs cut it, and that `--` ends what counts, is this project's own rule (after Linux,
--- kernel/params.c, `parse_args`).
-use Rattle.std.specs.Prelude.{ℕ, ◌==◌, ◌||◌, Bool, nat_lt, List, length, codes, filter}
-use Rattle.std.specs.List.{slice_split, before_first}
+-- The words of a command line. That spaces and tabs cut it, and that `--` ends what counts, is this project's own rule
+-- (after Linux, kernel/params.c, `parse_args`).
+use Rattle.std.specs.Prelude.{ℕ, Bool, List, [], ◌∷◌, codes}
+use Rattle.std.specs.List.{before_first}
 use Rattle.std.specs.Str.{bytes_eq}
-
--- a space or a tab ends a word
-abbrev pub is_blank : ℕ → Bool
-is_blank byte = (byte == 32) || (byte == 9)
+use Rattle.armcaps_lex.specs.Pieces.{pieces}
 
 -- what the spaces and tabs of a text cut it into, without the empty pieces
 abbrev pub all_words : List ℕ → List (List ℕ)
-all_words text = filter (λ piece. nat_lt 0 (length piece)) (slice_split is_blank text)
+all_words text = pieces (32 ∷ 9 ∷ []) text
 
 -- the word `--`, after which the words are not the kernel's
 abbrev pub is_end : List ℕ → Bool

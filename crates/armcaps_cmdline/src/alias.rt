@@ -1,12 +1,13 @@
-// The words that turn features off.
+//! The words that turn features off.
+
 ghost use Rattle.std.specs.Prelude.{◌≡◌};
 ghost use Rattle.armcaps_cmdline.specs.Assignments.{alias_named, alias_word};
 
 /// A word that sets one or more fields to 0.
 ///
 /// Source: Linux, arch/arm64/kernel/idreg-override.c, `aliases`.
-#[derive(Clone, Copy)]
-pub enum Alias {
+#[derive(Clone, Copy, Debug, PartialEq, Eq)]
+pub(crate) enum Alias {
     NoSve,
     NoSme,
     NoBti,
@@ -40,7 +41,7 @@ impl Alias {
 
     /// The alias that a word is; `None` where it is none.
     #[tactic(auto, unfolding(crate::specs::Assignments::alias_named))]
-    pub fn named(word: &[u8]) -> Option<Alias>
+    pub(crate) fn named(word: &[u8]) -> Option<Alias>
         ensures { result ≡ alias_named word.now }
     {
         Alias::ALL

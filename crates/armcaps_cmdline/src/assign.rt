@@ -1,4 +1,5 @@
-// Settings, written into the overrides.
+//! Settings, written into the overrides.
+
 ghost use Rattle.std.specs.Prelude.{◌≡◌, ◌%◌, ◌^◌, ◌<◌, Some, length, slice_get};
 ghost use Rattle.std.specs.Option.{option_map};
 ghost use Rattle.armcaps_tables.specs.Rows.{rows_of};
@@ -6,10 +7,10 @@ ghost use Rattle.armcaps_cmdline.specs.Assignments.{assigned, zeros_for, is_fiel
 ghost use Rattle.armcaps_cmdline.specs.Overrides.{Assigns};
 
 use armcaps_enc::SysReg;
-use armcaps_tables::{Overrides, count, find, row};
+use armcaps_tables::{Overrides, count, field as row, find};
 
 // The number for the row that has the name, if a row has it.
-#[tactic(auto, using(crate::proofs::Assigning::assigns_one, crate::proofs::Assigning::assigns_nothing))]
+#[tactic(auto, using(crate::proofs::Assignments::assigns_one, crate::proofs::Assignments::assigns_nothing))]
 fn set_field(overrides: &mut Overrides, register: SysReg, field: &[u8], number: u64)
     ensures { Assigns (assigned register field.now number) overrides.old overrides.new }
 {
@@ -19,7 +20,7 @@ fn set_field(overrides: &mut Overrides, register: SysReg, field: &[u8], number: 
 }
 
 // 0 for each row of a register.
-#[tactic(auto, using(crate::proofs::Assigning::zeros_more, crate::proofs::Assigning::assigns_nothing))]
+#[tactic(auto, using(crate::proofs::Assignments::zeros_more, crate::proofs::Assignments::assigns_nothing))]
 fn zero_rows(overrides: &mut Overrides, register: SysReg)
     ensures { Assigns (zeros_for register) overrides.old overrides.new }
 {
@@ -35,7 +36,7 @@ fn is_field(register: SysReg, field: &[u8], other: SysReg, name: &[u8]) -> bool
 }
 
 // 0 for each row that a field at 0 sets to 0 as well.
-#[tactic(auto, using(crate::proofs::Assigning::sve_dependents, crate::proofs::Assigning::assigns_nothing))]
+#[tactic(auto, using(crate::proofs::Assignments::sve_dependents, crate::proofs::Assignments::assigns_nothing))]
 fn zero_dependents(overrides: &mut Overrides, register: SysReg, field: &[u8])
     ensures { Assigns (dependents register field.now) overrides.old overrides.new }
 {
@@ -54,11 +55,11 @@ fn width_of(register: SysReg, index: usize) -> u32
     ensures width { option_map (λ row. row.width) (slice_get (rows_of register) index) ≡ Some result }
     ensures small { result < 64 }
 {
-    row(register, index).unwrap().span.width
+    row(register, index).span.width
 }
 
 // A number cut to a width.
-#[tactic(auto, using(crate::proofs::Assigning::low_bits))]
+#[tactic(auto, using(crate::proofs::Assignments::low_bits))]
 fn cut(number: u64, width: u32) -> u64
     requires { width < 64 }
     ensures { result ≡ number % 2 ^ width }
@@ -67,7 +68,7 @@ fn cut(number: u64, width: u32) -> u64
 }
 
 // Whether a number is 0 once it is cut to the width of the row that has the name.
-#[tactic(auto, using(crate::proofs::Assigning::cut_at, crate::proofs::Assigning::cut_nowhere))]
+#[tactic(auto, using(crate::proofs::Assignments::cut_at, crate::proofs::Assignments::cut_nowhere))]
 fn is_cut_to_zero(register: SysReg, field: &[u8], number: u64) -> bool
     ensures { result ≡ is_cut_to_zero register field.now number }
 {
@@ -78,9 +79,10 @@ fn is_cut_to_zero(register: SysReg, field: &[u8], number: u64) -> bool
 }
 
 /// Sets a field to a number, and where that makes it 0 what depends on it too; nothing where no field has the name.
-#[tactic(auto, using(crate::proofs::Assigning::setting_with_dependents))]
-pub fn assign(overrides: &mut Overrides, register: SysReg, field: &[u8], number: u64)
-    ensures { Assigns (assignments_to (record { register = register; field = field.now; number = number })) overrides.old overrides.new }
+#[tactic(auto, using(crate::proofs::Assignments::setting_with_dependents))]
+pub(crate) fn assign(overrides: &mut Overrides, register: SysReg, field: &[u8], number: u64)
+    ensures { Assigns (assignments_to (record { register = register; field = field.now; number = number }))
+        overrides.old overrides.new }
 {
     set_field(overrides, register, field, number);
     if is_cut_to_zero(register, field, number) {

@@ -1,4 +1,5 @@
-// A command line, word by word.
+//! A command line, word by word.
+
 ghost use Rattle.std.specs.Prelude.{◌≡◌, ℕ, ◌<◌, None, length};
 ghost use Rattle.std.specs.List.{flat_map};
 ghost use Rattle.armcaps_enc.specs.declared.register.SysReg.{SysReg};
@@ -7,7 +8,7 @@ ghost use Rattle.armcaps_tables.specs.Overriding.{override_of};
 ghost use Rattle.armcaps_tables.specs.Rows.{rows_of};
 ghost use Rattle.armcaps_cmdline.specs.declared.alias.Alias.TheVariants.{NoPauth};
 ghost use Rattle.armcaps_cmdline.specs.Assignments.{alias_settings, assignments_to, assignments_of};
-ghost use Rattle.armcaps_cmdline.specs.Overrides.{Assigns, command_line_override};
+ghost use Rattle.armcaps_cmdline.specs.Overrides.{Assigns, command_line_override, command_line_overrides};
 
 use crate::alias::Alias;
 use crate::assign::assign;
@@ -65,11 +66,13 @@ fn assign_word(overrides: &mut Overrides, word: &[u8])
 /// it makes `id_aa64pfr1.sme` 0, SME's own fields. Any other word is passed over, and so are all from the word `--` on.
 /// No row of CTR_EL0 or DCZID_EL0 gets an override.
 ///
-/// Source: Linux, arch/arm64/kernel/idreg-override.c, for the form of the words and the aliases. The other rules are this
-/// project's own.
-#[tactic(auto, using(crate::proofs::Reading::remains_all, crate::proofs::Reading::remains_word, crate::proofs::Reading::remains_none, crate::proofs::Reach::ctr_none, crate::proofs::Reach::dczid_none))]
+/// Source: Linux, arch/arm64/kernel/idreg-override.c, for the form of the words and the aliases. The other rules are
+/// this project's own.
+#[tactic(auto, using(crate::proofs::RemainingWords::remains_whole, crate::proofs::RemainingWords::remains_none))]
 pub fn parse(text: &[u8]) -> Overrides
-    ensures rows { (register : SysReg) (index : ℕ) → index < length (rows_of register) → override_of result register index ≡ command_line_override text.now register index }
+    ensures value { result ≡ command_line_overrides text.now }
+    ensures rows { (register : SysReg) (index : ℕ) → index < length (rows_of register)
+        → override_of result register index ≡ command_line_override text.now register index }
     ensures ctr { (index : ℕ) → index < length (rows_of CtrEl0) → override_of result CtrEl0 index ≡ None }
     ensures dczid { (index : ℕ) → index < length (rows_of DczidEl0) → override_of result DczidEl0 index ≡ None }
 {

@@ -4,11 +4,11 @@
 mod alias;
 mod assign;
 mod command_line;
+mod laws;
 mod setting;
 #[cfg(test)]
 mod tests;
-mod value;
 mod word;
 
 pub use command_line::parse;
-pub use value::value_of;
+pub use laws::overrides_fit;

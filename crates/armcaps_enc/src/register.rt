@@ -33,13 +33,13 @@ macro_rules! registers {
 }
 
 macro_rules! all_registers {
-    ({ $($one:ident($($part:literal),*) $name:literal,)* } { $($tracked:ident($($number:literal),*) $text:literal,)* }) => {
+    ({ $($one:ident $code:tt $name:literal,)* } { $($tracked:ident $number:tt $text:literal,)* }) => {
         [$(SysReg::$one,)* $(SysReg::$tracked,)*]
     };
 }
 
 macro_rules! tracked_registers {
-    ({ $($one:ident($($part:literal),*) $name:literal,)* } { $($tracked:ident($($number:literal),*) $text:literal,)* }) => {
+    ({ $($one:ident $code:tt $name:literal,)* } { $($tracked:ident $number:tt $text:literal,)* }) => {
         [$(SysReg::$tracked,)*]
     };
 }

@@ -1,4 +1,5 @@
 -- The lemmas of this crate.
+pub mod FieldWords
 pub mod First
 pub mod Overriding
 pub mod Places

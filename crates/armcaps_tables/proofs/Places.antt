@@ -27,7 +27,8 @@ not_true true h = absurd (false≢true h)
 not_true false h = refl
 
 -- an element of a list that passes a test whole passes it
-pub all_at : {X : Type 0} (test : X → Bool) (xs : List X) (i : ℕ) (x : X) → list_all test xs ≡ true → slice_get xs i ≡ Some x → test x ≡ true
+pub all_at : {X : Type 0} (test : X → Bool) (xs : List X) (i : ℕ) (x : X) → list_all test xs ≡ true
+    → slice_get xs i ≡ Some x → test x ≡ true
 all_at test [] i x passes at = cc
 all_at test (y ∷ ys) zero x passes at =
     let same : y ≡ x = cc in
@@ -36,7 +37,8 @@ all_at test (y ∷ ys) zero x passes at =
 all_at test (y ∷ ys) (suc i) x passes at = all_at test ys i x (both (test y) (list_all test ys) passes).1 at
 
 -- no element passes a test that the list does not pass anywhere
-none_at : {X : Type 0} (test : X → Bool) (xs : List X) (i : ℕ) (x : X) → list_any test xs ≡ false → slice_get xs i ≡ Some x → test x ≡ false
+none_at : {X : Type 0} (test : X → Bool) (xs : List X) (i : ℕ) (x : X) → list_any test xs ≡ false
+    → slice_get xs i ≡ Some x → test x ≡ false
 none_at test [] i x fails at = cc
 none_at test (y ∷ ys) zero x fails at =
     let same : y ≡ x = cc in
@@ -48,55 +50,70 @@ none_at test (y ∷ ys) (suc i) x fails at = none_at test ys i x (neither (test 
 pub rises_within : (end : ℕ) (rows : List Row) → rises end rows ≡ true → end ≤ 64
 rises_within end [] rise = leb-true end 64 rise
 rises_within end (row ∷ rows) rise =
-    let parts : (nat_le end row.shift ≡ true) × (rises (row.shift + row.width) rows ≡ true) = both (nat_le end row.shift) (rises (row.shift + row.width) rows) rise in
+    let parts : (nat_le end row.shift ≡ true) × (rises (row.shift + row.width) rows ≡ true) =
+    both (nat_le end row.shift) (rises (row.shift + row.width) rows) rise in
     omega (arith, leb-true end row.shift parts.0, rises_within (row.shift + row.width) rows parts.1)
 
 -- a row begins at or after the end that came before it, and ends within the word
-rises_at : (end : ℕ) (rows : List Row) (i : ℕ) (row : Row) → rises end rows ≡ true → slice_get rows i ≡ Some row → (end ≤ row.shift) × (row.shift + row.width ≤ 64)
+rises_at : (end : ℕ) (rows : List Row) (i : ℕ) (row : Row) → rises end rows ≡ true → slice_get rows i ≡ Some row
+    → (end ≤ row.shift) × (row.shift + row.width ≤ 64)
 rises_at end [] i row rise at = cc
 rises_at end (first ∷ rows) zero row rise at =
-    let parts : (nat_le end first.shift ≡ true) × (rises (first.shift + first.width) rows ≡ true) = both (nat_le end first.shift) (rises (first.shift + first.width) rows) rise in
+    let parts : (nat_le end first.shift ≡ true) × (rises (first.shift + first.width) rows ≡ true) =
+    both (nat_le end first.shift) (rises (first.shift + first.width) rows) rise in
     let same : first ≡ row = cc in
     let At : Row → Type 0 = λ it. (end ≤ it.shift) × (it.shift + it.width ≤ 64) in
     subst At same (leb-true end first.shift parts.0, rises_within (first.shift + first.width) rows parts.1)
 rises_at end (first ∷ rows) (suc i) row rise at =
-    let parts : (nat_le end first.shift ≡ true) × (rises (first.shift + first.width) rows ≡ true) = both (nat_le end first.shift) (rises (first.shift + first.width) rows) rise in
-    let later : (first.shift + first.width ≤ row.shift) × (row.shift + row.width ≤ 64) = rises_at (first.shift + first.width) rows i row parts.1 at in
+    let parts : (nat_le end first.shift ≡ true) × (rises (first.shift + first.width) rows ≡ true) =
+    both (nat_le end first.shift) (rises (first.shift + first.width) rows) rise in
+    let later : (first.shift + first.width ≤ row.shift) × (row.shift + row.width ≤ 64) =
+    rises_at (first.shift + first.width) rows i row parts.1 at in
     (omega (arith, leb-true end first.shift parts.0), later.1)
 
 -- of two rows, the later begins at or after the end of the earlier
-rises_apart : (end : ℕ) (rows : List Row) (i j : ℕ) (one other : Row) → rises end rows ≡ true → i < j → slice_get rows i ≡ Some one → slice_get rows j ≡ Some other → one.shift + one.width ≤ other.shift
+rises_apart : (end : ℕ) (rows : List Row) (i j : ℕ) (one other : Row) → rises end rows ≡ true → i < j
+    → slice_get rows i ≡ Some one → slice_get rows j ≡ Some other → one.shift + one.width ≤ other.shift
 rises_apart end [] i j one other rise before at later = cc
 rises_apart end (first ∷ rows) i zero one other rise before at later = absurd (omega arith)
 rises_apart end (first ∷ rows) zero (suc j) one other rise before at later =
     let same : first ≡ one = cc in
     let Apart : Row → Type 0 = λ it. it.shift + it.width ≤ other.shift in
-    subst Apart same (rises_at (first.shift + first.width) rows j other (both (nat_le end first.shift) (rises (first.shift + first.width) rows) rise).1 later).0
+    subst Apart same (rises_at (first.shift + first.width) rows j other
+    (both (nat_le end first.shift) (rises (first.shift + first.width) rows) rise).1 later).0
 rises_apart end (first ∷ rows) (suc i) (suc j) one other rise before at later =
-    rises_apart (first.shift + first.width) rows i j one other (both (nat_le end first.shift) (rises (first.shift + first.width) rows) rise).1 (omega arith) at later
+    rises_apart (first.shift + first.width) rows i j one other
+    (both (nat_le end first.shift) (rises (first.shift + first.width) rows) rise).1 (omega arith) at later
 
 -- of two rows, the later has another name
-differ_at : (rows : List Row) (i j : ℕ) (one other : Row) → names_differ rows ≡ true → i < j → slice_get rows i ≡ Some one → slice_get rows j ≡ Some other → bytes_eq one.name other.name ≡ false
+differ_at : (rows : List Row) (i j : ℕ) (one other : Row) → names_differ rows ≡ true → i < j
+    → slice_get rows i ≡ Some one → slice_get rows j ≡ Some other → bytes_eq one.name other.name ≡ false
 differ_at [] i j one other differ before at later = cc
 differ_at (first ∷ rows) i zero one other differ before at later = absurd (omega arith)
 differ_at (first ∷ rows) zero (suc j) one other differ before at later =
     let same : first ≡ one = cc in
     let Differ : Row → Type 0 = λ it. bytes_eq it.name other.name ≡ false in
     let named : Row → Bool = λ it. bytes_eq first.name it.name in
-    subst Differ same (none_at named rows j other (not_true (list_any named rows) (both (not (list_any named rows)) (names_differ rows) differ).0) later)
+    subst Differ same (none_at named rows j other
+    (not_true (list_any named rows) (both (not (list_any named rows)) (names_differ rows) differ).0) later)
 differ_at (first ∷ rows) (suc i) (suc j) one other differ before at later =
     let named : Row → Bool = λ it. bytes_eq first.name it.name in
     differ_at rows i j one other (both (not (list_any named rows)) (names_differ rows) differ).1 (omega arith) at later
 
 -- the three parts of the test
 pub rise_of : (reg : SysReg) → rises 0 (rows_of reg) ≡ true
-rise_of reg = (both (rises 0 (rows_of reg)) (list_all row_holds (rows_of reg)) (both (rises 0 (rows_of reg) && list_all row_holds (rows_of reg)) (names_differ (rows_of reg)) (tables reg)).0).0
+rise_of reg =
+    (both (rises 0 (rows_of reg)) (list_all row_holds (rows_of reg))
+    (both (rises 0 (rows_of reg) && list_all row_holds (rows_of reg)) (names_differ (rows_of reg)) (tables reg)).0).0
 
 pub hold_of : (reg : SysReg) → list_all row_holds (rows_of reg) ≡ true
-hold_of reg = (both (rises 0 (rows_of reg)) (list_all row_holds (rows_of reg)) (both (rises 0 (rows_of reg) && list_all row_holds (rows_of reg)) (names_differ (rows_of reg)) (tables reg)).0).1
+hold_of reg =
+    (both (rises 0 (rows_of reg)) (list_all row_holds (rows_of reg))
+    (both (rises 0 (rows_of reg) && list_all row_holds (rows_of reg)) (names_differ (rows_of reg)) (tables reg)).0).1
 
 names_of : (reg : SysReg) → names_differ (rows_of reg) ≡ true
-names_of reg = (both (rises 0 (rows_of reg) && list_all row_holds (rows_of reg)) (names_differ (rows_of reg)) (tables reg)).1
+names_of reg =
+    (both (rises 0 (rows_of reg) && list_all row_holds (rows_of reg)) (names_differ (rows_of reg)) (tables reg)).1
 
 -- a test that an implication holds
 implied : (a b : Bool) → (not a || not b) ≡ true → a ≡ true → b ≡ false
@@ -111,44 +128,61 @@ first_of a b c d h =
     let two : (a ≡ true) × (b ≡ true) = both a b third.0 in
     (two.0, two.1, third.1, last.1)
 
-parts_of : (reg : SysReg) (i : ℕ) (row : Row) → slice_get (rows_of reg) i ≡ Some row → (nat_le 1 row.width ≡ true) × (nat_le row.width 32 ≡ true) × (field_fits row.signed row.width row.safe ≡ true) × ((not (counts_from_zero row.rule) || not row.signed) ≡ true)
+parts_of : (reg : SysReg) (i : ℕ) (row : Row) → slice_get (rows_of reg) i ≡ Some row
+    → (nat_le 1 row.width ≡ true) × (nat_le row.width 32 ≡ true) × (field_fits row.signed row.width row.safe ≡ true) ×
+    ((not (counts_from_zero row.rule) || not row.signed) ≡ true)
 parts_of reg i row at =
-    first_of (nat_le 1 row.width) (nat_le row.width 32) (field_fits row.signed row.width row.safe) (not (counts_from_zero row.rule) || not row.signed) (all_at row_holds (rows_of reg) i row (hold_of reg) at)
+    first_of (nat_le 1 row.width) (nat_le row.width 32) (field_fits row.signed row.width row.safe)
+    (not (counts_from_zero row.rule) || not row.signed) (all_at row_holds (rows_of reg) i row (hold_of reg) at)
 
 -- a field of a table is a range of the word
-pub row_in_word : (reg : SysReg) (i : ℕ) (row : Row) → slice_get (rows_of reg) i ≡ Some row → IsRange row.shift row.width
+pub row_in_word : (reg : SysReg) (i : ℕ) (row : Row) → slice_get (rows_of reg) i ≡ Some row
+    → IsRange row.shift row.width
 row_in_word reg i row at =
-    let parts : (nat_le 1 row.width ≡ true) × (nat_le row.width 32 ≡ true) × (field_fits row.signed row.width row.safe ≡ true) × ((not (counts_from_zero row.rule) || not row.signed) ≡ true) = parts_of reg i row at in
+    let parts : (nat_le 1 row.width ≡ true) × (nat_le row.width 32 ≡ true) ×
+    (field_fits row.signed row.width row.safe ≡ true) ×
+    ((not (counts_from_zero row.rule) || not row.signed) ≡ true) = parts_of reg i row at in
     (leb-true 1 row.width parts.0, leb-true row.width 32 parts.1, (rises_at 0 (rows_of reg) i row (rise_of reg) at).1)
 
 -- its safe value fits it
-pub row_safe : (reg : SysReg) (i : ℕ) (row : Row) → slice_get (rows_of reg) i ≡ Some row → IsTrue (field_fits row.signed row.width row.safe)
+pub row_safe : (reg : SysReg) (i : ℕ) (row : Row) → slice_get (rows_of reg) i ≡ Some row
+    → IsTrue (field_fits row.signed row.width row.safe)
 row_safe reg i row at = (parts_of reg i row at).2
 
 -- it is unsigned where 0 counts less than every other value
-pub row_unsigned : (reg : SysReg) (i : ℕ) (row : Row) → slice_get (rows_of reg) i ≡ Some row → row.rule ≡ HigherOrZero → row.signed ≡ false
-row_unsigned reg i row at is = implied (counts_from_zero row.rule) row.signed (parts_of reg i row at).3 (ap counts_from_zero is)
+pub row_unsigned : (reg : SysReg) (i : ℕ) (row : Row) → slice_get (rows_of reg) i ≡ Some row → row.rule ≡ HigherOrZero
+    → row.signed ≡ false
+row_unsigned reg i row at is =
+    implied (counts_from_zero row.rule) row.signed (parts_of reg i row at).3 (ap counts_from_zero is)
 
 -- of two fields of a table, the later begins at or after the end of the earlier
-pub rows_apart : (reg : SysReg) (i j : ℕ) (one other : Row) → i < j → slice_get (rows_of reg) i ≡ Some one → slice_get (rows_of reg) j ≡ Some other → one.shift + one.width ≤ other.shift
+pub rows_apart : (reg : SysReg) (i j : ℕ) (one other : Row) → i < j → slice_get (rows_of reg) i ≡ Some one
+    → slice_get (rows_of reg) j ≡ Some other → one.shift + one.width ≤ other.shift
 rows_apart reg i j one other before at later = rises_apart 0 (rows_of reg) i j one other (rise_of reg) before at later
 
 -- two fields of a table with one name are one field
-pub one_name : (reg : SysReg) (i j : ℕ) (one other : Row) → slice_get (rows_of reg) i ≡ Some one → slice_get (rows_of reg) j ≡ Some other → one.name ≡ other.name → i ≡ j
+pub one_name : (reg : SysReg) (i j : ℕ) (one other : Row) → slice_get (rows_of reg) i ≡ Some one
+    → slice_get (rows_of reg) j ≡ Some other → one.name ≡ other.name → i ≡ j
 one_name reg i j one other at later same =
     elim (cases_lt i j) [
-      | inl before ↦ absurd (false≢true (sym (differ_at (rows_of reg) i j one other (names_of reg) before at later) ∙ (bytes_eq-Decides one.name other.name).1 same))
+      | inl before ↦ absurd (false≢true
+          (sym (differ_at (rows_of reg) i j one other (names_of reg) before at later)
+          ∙ (bytes_eq-Decides one.name other.name).1 same))
       | inr past ↦ elim (cases_lt j i) [
-        | inl before ↦ absurd (false≢true (sym (differ_at (rows_of reg) j i other one (names_of reg) before later at) ∙ (bytes_eq-Decides other.name one.name).1 (sym same)))
+        | inl before ↦ absurd (false≢true
+            (sym (differ_at (rows_of reg) j i other one (names_of reg) before later at)
+            ∙ (bytes_eq-Decides other.name one.name).1 (sym same)))
         | inr equal ↦ omega arith
       ]
     ]
 
 -- the same of what is found at a place of a table
-pub found_safe : (reg : SysReg) (i : ℕ) (found : Option Row) → found ≡ slice_get (rows_of reg) i → IfSome found (λ row. IsTrue (field_fits row.signed row.width row.safe))
+pub found_safe : (reg : SysReg) (i : ℕ) (found : Option Row) → found ≡ slice_get (rows_of reg) i
+    → IfSome found (λ row. IsTrue (field_fits row.signed row.width row.safe))
 found_safe reg i None at = tt
 found_safe reg i (Some row) at = row_safe reg i row (sym at)
 
-pub found_unsigned : (reg : SysReg) (i : ℕ) (found : Option Row) → found ≡ slice_get (rows_of reg) i → IfSome found (λ row. row.rule ≡ HigherOrZero → row.signed ≡ false)
+pub found_unsigned : (reg : SysReg) (i : ℕ) (found : Option Row) → found ≡ slice_get (rows_of reg) i
+    → IfSome found (λ row. row.rule ≡ HigherOrZero → row.signed ≡ false)
 found_unsigned reg i None at = tt
 found_unsigned reg i (Some row) at = row_unsigned reg i row (sym at)

@@ -14,9 +14,12 @@ counts_from_zero _ = false
 
 -- a field has 1 to 32 bits, its safe value fits them, and it is unsigned where 0 is below every other value
 abbrev pub row_holds : Row → Bool
-row_holds row = nat_le 1 row.width && nat_le row.width 32 && field_fits row.signed row.width row.safe && (not (counts_from_zero row.rule) || not row.signed)
+row_holds row =
+    nat_le 1 row.width && nat_le row.width 32 && field_fits row.signed row.width row.safe &&
+    (not (counts_from_zero row.rule) || not row.signed)
 
--- each field begins at or after the end of the one before, the first at or after `end`, and the last ends within 64 bits: so no two have a bit in common
+-- each field begins at or after the end of the one before, the first at or after `end`, and the last ends within 64
+-- bits: so no two have a bit in common
 abbrev pub rises : ℕ → List Row → Bool
 rises end [] = nat_le end 64
 rises end (row ∷ rows) = nat_le end row.shift && rises (row.shift + row.width) rows

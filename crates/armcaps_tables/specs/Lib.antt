@@ -1,6 +1,8 @@
 -- What the contracts of this crate cite.
 pub mod Core
 pub mod Facts
+pub mod Fields
+pub mod Merging
 pub mod Overriding
 pub mod Row
 pub mod RowOf

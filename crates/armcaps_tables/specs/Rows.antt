@@ -1,6 +1,7 @@
--- The fields of each register, in the manual's order (Arm ARM DDI 0487, "AArch64 System register descriptions"). Which fields
--- are listed, their rules, safe values, visibility and strictness are this project's profile after Linux,
--- arch/arm64/kernel/cpufeature.c. A line has the field's name, its lowest bit, and what is not as usual (`negsuc 0` is -1).
+-- The fields of each register, in the manual's order (Arm ARM DDI 0487, "AArch64 System register descriptions"). Which
+-- fields are listed, their rules, safe values, visibility and strictness are this project's profile after Linux,
+-- arch/arm64/kernel/cpufeature.c. A line has the field's name, its lowest bit, and what is not as usual (`negsuc 0` is
+-- -1).
 use Rattle.std.specs.Prelude.{ℕ, ℤ, pos, negsuc, true, false, List, [], ◌∷◌, codes}
 use Prim.Native.String.{String}
 use Rattle.armcaps_rule.specs.declared.rule.Rule.TheVariants.{Exact, Lower, Higher, HigherOrZero}
@@ -10,7 +11,18 @@ use Rattle.armcaps_tables.specs.Row.{Row}
 
 -- 4 bits, unsigned, the lower value is kept, 0 is safe, and cores that differ in it are reported
 abbrev usual : Row
-usual = record { name = []; shift = 0; width = 4; signed = false; rule = Lower; safe = pos 0; visible = true; strict = true }
+usual =
+    record {
+      name =
+          [];
+      shift = 0;
+      width = 4;
+      signed = false;
+      rule = Lower;
+      safe = pos 0;
+      visible = true;
+      strict = true;
+    }
 
 -- a field that users see, and one that they don't
 abbrev visible : String → ℕ → Row → Row

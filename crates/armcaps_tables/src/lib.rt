@@ -4,6 +4,7 @@
 mod core_regs;
 mod counts;
 mod field_row;
+mod lines;
 mod overrides;
 mod rows;
 mod table;

@@ -54,8 +54,10 @@ impl Overrides {
     #[tactic(auto, using(crate::proofs::Tables::few_rows))]
     pub fn set(&mut self, reg: SysReg, index: usize, bits: u64)
         requires { index < length (rows_of reg) }
-        ensures here { override_of self.new reg index ≡ option_map (λ row. cut_value row bits) (slice_get (rows_of reg) index) }
-        ensures others { (other : SysReg) (place : ℕ) → (other ≢ reg) ⊎ (place ≢ index) → override_of self.new other place ≡ override_of self.old other place }
+        ensures here { override_of self.new reg index
+            ≡ option_map (λ row. cut_value row bits) (slice_get (rows_of reg) index) }
+        ensures others { (other : SysReg) (place : ℕ) → (other ≢ reg) ⊎ (place ≢ index)
+            → override_of self.new other place ≡ override_of self.old other place }
         ensures whole { IsWhole self.new }
     {
         self.values[reg.place()][index] = Some(cut(reg, index, bits));

@@ -81,15 +81,22 @@ fn is_named(reg: SysReg, index: usize, name: &[u8]) -> bool
     field(reg, index).name.as_bytes() == name
 }
 
-/// Of every table: the fields of a register stand in rising order, have no bit in common and lie within its 64 bits; each
-/// safe value fits its field; a field for which 0 counts less than every other value is unsigned; and no two fields of a
-/// register have one name. There are 123 fields. The first clause says the same in one test.
+/// Of every table: the fields of a register stand in rising order, have no bit in common and lie within its 64 bits;
+/// each safe value fits its field; a field for which 0 counts less than every other value is unsigned; and no two
+/// fields of a register have one name. There are 123 fields. The first clause says the same in one test.
 pub fn tables_hold()
     ensures holds { (reg : SysReg) → IsTrue (table_holds (rows_of reg)) }
-    ensures apart { (reg : SysReg) (i j : ℕ) (one other : Row) → i < j → slice_get (rows_of reg) i ≡ Some one → slice_get (rows_of reg) j ≡ Some other → one.shift + one.width ≤ other.shift }
-    ensures within { (reg : SysReg) (i : ℕ) (row : Row) → slice_get (rows_of reg) i ≡ Some row → IsRange row.shift row.width }
-    ensures safe { (reg : SysReg) (i : ℕ) (row : Row) → slice_get (rows_of reg) i ≡ Some row → IsTrue (field_fits row.signed row.width row.safe) }
-    ensures unsigned { (reg : SysReg) (i : ℕ) (row : Row) → slice_get (rows_of reg) i ≡ Some row → row.rule ≡ HigherOrZero → row.signed ≡ false }
-    ensures names { (reg : SysReg) (i j : ℕ) (one other : Row) → slice_get (rows_of reg) i ≡ Some one → slice_get (rows_of reg) j ≡ Some other → one.name ≡ other.name → i ≡ j }
+    ensures apart { (reg : SysReg) (i j : ℕ) (one other : Row) → i < j
+        → slice_get (rows_of reg) i ≡ Some one → slice_get (rows_of reg) j ≡ Some other
+        → one.shift + one.width ≤ other.shift }
+    ensures within { (reg : SysReg) (i : ℕ) (row : Row) → slice_get (rows_of reg) i ≡ Some row
+        → IsRange row.shift row.width }
+    ensures safe { (reg : SysReg) (i : ℕ) (row : Row) → slice_get (rows_of reg) i ≡ Some row
+        → IsTrue (field_fits row.signed row.width row.safe) }
+    ensures unsigned { (reg : SysReg) (i : ℕ) (row : Row) → slice_get (rows_of reg) i ≡ Some row
+        → row.rule ≡ HigherOrZero → row.signed ≡ false }
+    ensures names { (reg : SysReg) (i j : ℕ) (one other : Row)
+        → slice_get (rows_of reg) i ≡ Some one → slice_get (rows_of reg) j ≡ Some other
+        → one.name ≡ other.name → i ≡ j }
     ensures all { sum_by (λ reg. length (rows_of reg)) registers ≡ 123 }
 {}

@@ -1,5 +1,5 @@
 use Rattle.armcaps_cmdline.specs.Overrides.{Assigns}
-use Rattle.armcaps_cmdline.proofs.Assigning.{first_zeros}
+use Rattle.armcaps_cmdline.proofs.Assignments.{first_zeros}
 use Rattle.armcaps_cmdline.proofs.assign.zero_rows.Given as goal
 
 -- the rows so far have 0, the others what they had

@@ -1,5 +1,5 @@
 use Rattle.std.proofs.Common.{length}
-use Rattle.armcaps_cmdline.proofs.Reading.{Remains}
+use Rattle.armcaps_cmdline.proofs.RemainingWords.{Remains}
 use Rattle.armcaps_cmdline.proofs.command_line.parse.Given as goal
 
 -- with what is left, the overrides so far become those of the whole text

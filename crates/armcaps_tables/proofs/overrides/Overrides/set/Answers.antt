@@ -9,7 +9,8 @@ invariant_of-self c =
     let within : c.args.index < 16 = omega (arith, few_rows c.args.reg) in
     rw (c.place.ensures.value, to_z-of_z w64 c.cut.result (record { sfits = c.cut.type_inv }))
     (record {
-      fit = changed_fits c.self.inside.values c.args.reg c.args.index (Some c.cut.result) c.self.invariant.whole within c.self.invariant.fit c.cut.ensures.fits;
+      fit = changed_fits c.self.inside.values c.args.reg c.args.index
+          (Some c.cut.result) c.self.invariant.whole within c.self.invariant.fit c.cut.ensures.fits;
       whole = changed_whole c.self.inside.values c.args.reg c.args.index (Some c.cut.result) c.self.invariant.whole;
     })
 
@@ -17,7 +18,8 @@ pub returns-clause-here : goal.returns-clause-here
 returns-clause-here c =
     let within : c.args.index < 16 = omega (arith, few_rows c.args.reg) in
     rw (c.place.ensures.value, to_z-of_z w64 c.cut.result (record { sfits = c.cut.type_inv }))
-    (changed_here c.self.inside.values c.args.reg c.args.index (Some c.cut.result) c.self.invariant.whole within ∙ sym c.cut.ensures.value)
+    (changed_here c.self.inside.values c.args.reg c.args.index (Some c.cut.result) c.self.invariant.whole within
+    ∙ sym c.cut.ensures.value)
 
 pub returns-clause-others : goal.returns-clause-others
 returns-clause-others c = λ other place apart.
@@ -25,4 +27,5 @@ returns-clause-others c = λ other place apart.
     (changed_elsewhere c.self.inside.values c.args.reg other c.args.index place _ c.self.invariant.whole apart)
 
 pub returns-clause-whole : goal.returns-clause-whole
-returns-clause-whole c = rw c.place.ensures.value (changed_whole c.self.inside.values c.args.reg c.args.index _ c.self.invariant.whole)
+returns-clause-whole c =
+    rw c.place.ensures.value (changed_whole c.self.inside.values c.args.reg c.args.index _ c.self.invariant.whole)
