@@ -1,10 +1,11 @@
--- The errata that are worked around, in the order of their capabilities' numbers. Which are listed, and their ranges, are this
--- project's profile after Linux, arch/arm64/kernel/cpu_errata.c, and Arm's Software Developers Errata Notices. A line has the
--- capability's number, the processors from a first version to a last one, and the fixes. A version rXpY is 0xXY.
+-- The errata that are worked around, in the order of their capabilities' numbers. Which are listed, and their ranges,
+-- are this project's profile after Linux, arch/arm64/kernel/cpu_errata.c, and Arm's Software Developers Errata Notices.
+-- A line has the capability's number, the processors from a first version to a last one, and the fixes. A version rXpY is
+-- 0xXY.
 use Rattle.std.specs.Prelude.{ℕ, List, [], ◌∷◌}
 use Rattle.armcaps_midr.specs.declared.processor.MidrRange.{MidrRange}
 use Rattle.armcaps_midr.specs.declared.processor.Fix.{Fix}
-use Rattle.armcaps_errata.specs.Row.{Row}
+use Rattle.armcaps_errata.specs.Erratum.{Erratum}
 
 -- the models: MIDR without Variant and Revision (Linux, arch/arm64/include/asm/cputype.h, `MIDR_CORTEX_A53` and so on)
 abbrev cortex_a53 : ℕ
@@ -33,25 +34,26 @@ versions model low high = record { model = model; low = low; high = high }
 abbrev fixed : ℕ → ℕ → Fix
 fixed version revidr = record { rv = version; revidr = revidr }
 
--- a row of its parts
-abbrev row : ℕ → List MidrRange → List Fix → Row
-row cap ranges fixes = record { cap = cap; ranges = ranges; fixes = fixes }
+-- an erratum of its parts
+abbrev erratum : ℕ → List MidrRange → List Fix → Erratum
+erratum cap ranges fixes = record { cap = cap; ranges = ranges; fixes = fixes }
 
 -- how many errata there are
 abbrev pub errata_count : ℕ
 errata_count = 10
 
 -- the errata in the order of their capabilities' numbers; behind each its capability's name
-unfoldable pub errata_rows : List Row
+unfoldable pub errata_rows : List Erratum
 errata_rows =
-    row 43 (versions cortex_a53 0x00 0x04 ∷ []) (fixed 0x04 0x100 ∷ [])  -- WORKAROUND_843419
-    ∷ row 44 (versions cortex_a53 0x00 0x04 ∷ []) []  -- WORKAROUND_845719
-    ∷ row 45 (versions cortex_a53 0x00 0x02 ∷ []) []  -- WORKAROUND_CLEAN_CACHE
-    ∷ row 46 (versions cortex_a57 0x00 0x12 ∷ []) []  -- WORKAROUND_832075
-    ∷ row 47 (versions cortex_a57 0x00 0x12 ∷ []) []  -- WORKAROUND_834220
-    ∷ row 48 (versions cortex_a73 0x00 0xff ∷ []) []  -- WORKAROUND_858921
-    ∷ row 49 (versions cortex_a76 0x00 0x30 ∷ []) []  -- WORKAROUND_REPEAT_TLBI
-    ∷ row 50 (versions cortex_a57 0x00 0xff ∷ versions cortex_a72 0x00 0xff ∷ versions cortex_a76 0x00 0x20 ∷ []) []  -- WORKAROUND_SPECULATIVE_AT
-    ∷ row 51 (versions cortex_a76 0x00 0x31 ∷ []) []  -- WORKAROUND_1463225
-    ∷ row 52 (versions cortex_a77 0x00 0x10 ∷ []) []  -- WORKAROUND_1508412
+    erratum 43 (versions cortex_a53 0x00 0x04 ∷ []) (fixed 0x04 0x100 ∷ [])  -- WORKAROUND_843419
+    ∷ erratum 44 (versions cortex_a53 0x00 0x04 ∷ []) []  -- WORKAROUND_845719
+    ∷ erratum 45 (versions cortex_a53 0x00 0x02 ∷ []) []  -- WORKAROUND_CLEAN_CACHE
+    ∷ erratum 46 (versions cortex_a57 0x00 0x12 ∷ []) []  -- WORKAROUND_832075
+    ∷ erratum 47 (versions cortex_a57 0x00 0x12 ∷ []) []  -- WORKAROUND_834220
+    ∷ erratum 48 (versions cortex_a73 0x00 0xff ∷ []) []  -- WORKAROUND_858921
+    ∷ erratum 49 (versions cortex_a76 0x00 0x30 ∷ []) []  -- WORKAROUND_REPEAT_TLBI
+    ∷ erratum 50 (versions cortex_a57 0x00 0xff ∷ versions cortex_a72 0x00 0xff ∷ versions cortex_a76 0x00 0x20 ∷ []) []
+    -- WORKAROUND_SPECULATIVE_AT
+    ∷ erratum 51 (versions cortex_a76 0x00 0x31 ∷ []) []  -- WORKAROUND_1463225
+    ∷ erratum 52 (versions cortex_a77 0x00 0x10 ∷ []) []  -- WORKAROUND_1508412
     ∷ []

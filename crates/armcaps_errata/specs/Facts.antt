@@ -4,7 +4,7 @@ use Rattle.std.specs.List.{list_all, list_any}
 use Rattle.armcaps_midr.specs.declared.processor.MidrRange.{MidrRange}
 use Rattle.armcaps_midr.specs.declared.processor.Fix.{Fix}
 use Rattle.armcaps_midr.specs.Midr.{model_of}
-use Rattle.armcaps_errata.specs.Row.{Row}
+use Rattle.armcaps_errata.specs.Erratum.{Erratum}
 
 -- a range names a model, without Variant and Revision, and its first version is not above its last one
 abbrev pub range_holds : MidrRange → Bool
@@ -15,5 +15,6 @@ abbrev pub is_within : Fix → MidrRange → Bool
 is_within fix range = nat_le range.low fix.rv && nat_le fix.rv range.high
 
 -- what holds of the ranges and fixes of an erratum
-abbrev pub row_holds : Row → Bool
-row_holds row = list_all range_holds row.ranges && list_all (λ fix. list_any (is_within fix) row.ranges) row.fixes
+abbrev pub erratum_holds : Erratum → Bool
+erratum_holds erratum =
+    list_all range_holds erratum.ranges && list_all (λ fix. list_any (is_within fix) erratum.ranges) erratum.fixes

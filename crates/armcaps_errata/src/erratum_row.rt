@@ -1,3 +1,5 @@
+//! What the table says of an erratum.
+
 use armcaps_midr::{Fix, MidrRange};
 use arrayvec::ArrayVec;
 
@@ -5,8 +7,8 @@ use arrayvec::ArrayVec;
 /// erratum is known, and by some processors' REVIDR that it is mended.
 ///
 /// Source: Linux, arch/arm64/kernel/cpu_errata.c, `arm64_errata`; Arm's Software Developers Errata Notices.
-#[derive(Drop)]
-pub struct Erratum {
+#[derive(Debug, PartialEq, Eq, Drop)]
+pub struct ErratumRow {
     /// The number of the capability that works around it.
     pub cap: u16,
     /// The processors that have it: one of these ranges holds them.

@@ -4,7 +4,7 @@
 mod erratum_row;
 mod table;
 
-pub use erratum_row::Erratum;
+pub use erratum_row::ErratumRow;
 pub use table::{affected_by, errata_hold, erratum};
 
 #[cfg(test)]

@@ -1,13 +1,15 @@
+//! The table of errata, and which of them a core has.
+
 ghost use Rattle.std.specs.Prelude.{◌≡◌, ◌<◌, ◌≤◌, ◌↔◌, ◌%◌, ◌^◌, IsSome, IsTrue, length, map, slice_get};
 ghost use Rattle.std.specs.List.{list_all, range_with_len};
 ghost use Rattle.std.specs.Option.{option_map};
 ghost use Rattle.armcaps_errata.specs.Errata.{errata_count, errata_rows};
-ghost use Rattle.armcaps_errata.specs.Facts.{row_holds};
-ghost use Rattle.armcaps_errata.specs.Has.{has_erratum, has_row, low_half};
-ghost use Rattle.armcaps_errata.specs.Row.{Row};
-ghost use Rattle.armcaps_errata.specs.RowOf.{row_of};
+ghost use Rattle.armcaps_errata.specs.Facts.{erratum_holds};
+ghost use Rattle.armcaps_errata.specs.Has.{has_erratum, is_affected_by, low_half};
+ghost use Rattle.armcaps_errata.specs.Erratum.{Erratum};
+ghost use Rattle.armcaps_errata.specs.RowOf.{erratum_of};
 
-use crate::erratum_row::Erratum;
+use crate::erratum_row::ErratumRow;
 use armcaps_enc::SysReg;
 use armcaps_midr::{Fix, MidrRange, affected};
 use armcaps_tables::CoreRegs;
@@ -38,8 +40,8 @@ macro_rules! row_at {
 
 /// An erratum by its place in the table, from 0. None exactly where the table has no such place.
 #[tactic(auto, unfolding(crate::specs::Errata::errata_rows))]
-pub fn erratum(index: usize) -> Option<Erratum>
-    ensures row { option_map row_of result ≡ slice_get errata_rows index }
+pub fn erratum(index: usize) -> Option<ErratumRow>
+    ensures row { option_map erratum_of result ≡ slice_get errata_rows index }
     ensures some { IsSome result ↔ (index < errata_count) }
 {
     // A version rXpY is 0xXY. Each line ends with the name of its capability.
@@ -51,7 +53,8 @@ pub fn erratum(index: usize) -> Option<Erratum>
         4 => 47, [versions(CORTEX_A57, 0x00, 0x12)], []; // WORKAROUND_834220
         5 => 48, [versions(CORTEX_A73, 0x00, 0xff)], []; // WORKAROUND_858921
         6 => 49, [versions(CORTEX_A76, 0x00, 0x30)], []; // WORKAROUND_REPEAT_TLBI
-        7 => 50, [versions(CORTEX_A57, 0x00, 0xff), versions(CORTEX_A72, 0x00, 0xff), versions(CORTEX_A76, 0x00, 0x20)], []; // WORKAROUND_SPECULATIVE_AT
+        7 => 50, [versions(CORTEX_A57, 0x00, 0xff), versions(CORTEX_A72, 0x00, 0xff), versions(CORTEX_A76, 0x00, 0x20)],
+            []; // WORKAROUND_SPECULATIVE_AT
         8 => 51, [versions(CORTEX_A76, 0x00, 0x31)], []; // WORKAROUND_1463225
         9 => 52, [versions(CORTEX_A77, 0x00, 0x10)], []; // WORKAROUND_1508412
     }
@@ -72,19 +75,19 @@ fn fixed(rv: u8, revidr: u32) -> Fix
 }
 
 // An erratum of its parts.
-fn row(cap: u16, ranges: &[MidrRange], fixes: &[Fix]) -> Erratum
+fn row(cap: u16, ranges: &[MidrRange], fixes: &[Fix]) -> ErratumRow
     requires ranges { length ranges.now ≤ 4 }
     requires fixes { length fixes.now ≤ 2 }
-    ensures { row_of result ≡ record { cap = cap; ranges = ranges.now; fixes = fixes.now } }
+    ensures { erratum_of result ≡ record { cap = cap; ranges = ranges.now; fixes = fixes.now } }
 {
-    let mut erratum = Erratum {
+    let mut row = ErratumRow {
         cap,
         ranges: ArrayVec::new(),
         fixes: ArrayVec::new(),
     };
-    erratum.ranges.try_extend_from_slice(ranges).unwrap();
-    erratum.fixes.try_extend_from_slice(fixes).unwrap();
-    erratum
+    row.ranges.try_extend_from_slice(ranges).unwrap();
+    row.fixes.try_extend_from_slice(fixes).unwrap();
+    row
 }
 
 /// Whether a core has the erratum at this place of the table, by the low halves of its MIDR and REVIDR.
@@ -96,8 +99,8 @@ pub fn affected_by(index: usize, core: &CoreRegs) -> bool
 }
 
 // Whether a core has an erratum.
-fn has(core: &CoreRegs, erratum: &Erratum) -> bool
-    ensures { result ≡ has_row core.now (row_of erratum.now) }
+fn has(core: &CoreRegs, erratum: &ErratumRow) -> bool
+    ensures { result ≡ is_affected_by core.now (erratum_of erratum.now) }
 {
     affected(
         low_32(core.get(SysReg::MidrEl1)),
@@ -114,11 +117,11 @@ fn low_32(word: u64) -> u32
     (word & 0xffff_ffff) as u32
 }
 
-/// Of the table: it has ten errata, whose capabilities have the numbers from 43 on; each range names a model, and its first
-/// version is not above its last one; and each fix is of a version that the erratum's ranges hold.
+/// Of the table: it has ten errata, whose capabilities have the numbers from 43 on; each range names a model, and its
+/// first version is not above its last one; and each fix is of a version that the erratum's ranges hold.
 #[tactic(auto, unfolding(crate::specs::Errata::errata_rows))]
 pub fn errata_hold()
     ensures count { length errata_rows ≡ errata_count }
-    ensures numbers { map (λ (row : Row). row.cap) errata_rows ≡ range_with_len 43 errata_count }
-    ensures holds { IsTrue (list_all row_holds errata_rows) }
+    ensures numbers { map (λ (erratum : Erratum). erratum.cap) errata_rows ≡ range_with_len 43 errata_count }
+    ensures holds { IsTrue (list_all erratum_holds errata_rows) }
 {}

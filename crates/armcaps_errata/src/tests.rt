@@ -1,3 +1,5 @@
+//! Processors and their errata.
+
 use super::*;
 use armcaps_enc::SysReg;
 use armcaps_tables::CoreRegs;

@@ -1,7 +1,8 @@
-pub mod Words
-pub mod Keeping
-pub mod Systems
-pub mod Users
+-- The lemmas of this crate.
+pub mod SystemFields
+pub mod SystemWords
+pub mod UserWords
+pub mod OverrideNotes
 pub mod Searching
-pub mod Noting
-pub mod Worked
+pub mod WordsByField
+pub mod ExampleWords

@@ -1,10 +1,8 @@
 //! A field of one core: the value that it counts as, and what its override comes to.
 
-ghost use Rattle.std.specs.Prelude.{◌≡◌, ◌<◌, Some, IsTrue, length, slice_get};
+ghost use Rattle.std.specs.Prelude.{◌≡◌, ◌<◌, Some, length, slice_get};
 ghost use Rattle.std.specs.Option.{option_map};
-ghost use Rattle.armcaps_tables.specs.Row.{Row};
 ghost use Rattle.armcaps_tables.specs.Rows.{rows_of};
-ghost use Rattle.armcaps_tables.specs.Fields.{value_fits};
 ghost use Rattle.armcaps_sanit.specs.Notes.{field_note};
 ghost use Rattle.armcaps_sanit.specs.System.{local_field};
 
@@ -17,18 +15,12 @@ use armcaps_tables::{CoreRegs, Overrides, field};
 /// `index` is the field's place in the register's table.
 pub fn local(overrides: &Overrides, core: &CoreRegs, reg: SysReg, index: usize) -> i64
     requires { index < length (rows_of reg) }
-    ensures value { option_map (local_field overrides.now core.now reg index) (slice_get (rows_of reg) index)
+    ensures { option_map (local_field overrides.now core.now reg index) (slice_get (rows_of reg) index)
         ≡ Some result }
-    ensures fits { (row : Row) → slice_get (rows_of reg) index ≡ Some row → IsTrue (value_fits row result) }
 {
     let field = field(reg, index);
     let value = field.span.value(core.get(reg));
-    forced(
-        field.rule,
-        field.safe,
-        overrides.get(reg, index),
-        &[value],
-    )
+    forced(field.rule, field.safe, overrides.get(reg, index), &[value])
 }
 
 /// What the override of a field comes to on the boot core (Linux, `init_cpu_ftr_reg`).

@@ -1,17 +1,17 @@
-//! The words that all admitted cores keep in common, what users see of them, where a core differs from the boot core, and
-//! what overrides make of one core's fields.
+//! The words that all admitted cores keep in common, what users see of them, where a core differs from the boot core,
+//! and what overrides make of one core's fields.
 #![tactic(auto)]
 
-mod field;
-mod fields;
+mod core_field;
 pub mod laws;
 mod noted;
+mod register_word;
 mod system;
 #[cfg(test)]
 mod tests;
 mod varying;
 
-pub use field::{local, note};
+pub use core_field::{local, note};
 pub use noted::Note;
 pub use system::System;
-pub use varying::varies;
+pub use varying::{varies, words_vary};

@@ -1,3 +1,5 @@
+//! Words of some cores, and what users see of them.
+
 use super::*;
 use armcaps_enc::SysReg;
 use armcaps_tables::{CoreRegs, Overrides};

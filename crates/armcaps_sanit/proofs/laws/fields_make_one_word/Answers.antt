@@ -1,6 +1,6 @@
-use Rattle.armcaps_sanit.proofs.Words.{made_of, only_one}
-use Rattle.armcaps_sanit.proofs.Systems.{system_word_made}
-use Rattle.armcaps_sanit.proofs.Users.{user_word_made}
+use Rattle.armcaps_tables.proofs.FieldWords.{made_of, only_one}
+use Rattle.armcaps_sanit.proofs.SystemWords.{system_word_made}
+use Rattle.armcaps_sanit.proofs.UserWords.{user_word_made}
 use Rattle.armcaps_sanit.proofs.laws.fields_make_one_word.Goals as goal
 
 pub returns-clause-made : goal.returns-clause-made
