@@ -1,2 +1,7 @@
--- What the contracts of this crate cite.
+-- What the contracts of this crate cite, and the crate that patches images above it.
+pub mod Bytes
 pub mod Names
+pub mod Entries
+pub mod Words
+pub mod Refusals
+pub mod Patched

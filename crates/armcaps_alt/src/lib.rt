@@ -2,16 +2,22 @@
 //! arch/arm64/kernel/alternative.c), and what the numbers of their table mean on a machine.
 #![tactic(auto)]
 
+mod callback;
 mod callback_kind;
 mod named_number;
 mod number_names;
+mod patch_kind;
 mod smccc_conduit;
+mod table_entry;
 mod table_place;
 #[cfg(test)]
 mod tests;
 
+pub use callback::callback_word;
 pub use callback_kind::CallbackKind;
 pub use named_number::Named;
 pub use number_names::Names;
+pub use patch_kind::PatchKind;
 pub use smccc_conduit::Conduit;
+pub use table_entry::Entry;
 pub use table_place::Layout;

@@ -23,3 +23,117 @@ fn names_are_found(rt: HostRuntime) -> Result<(), Fail> {
     assert_eq!(rt; names.conduit(), Conduit::Smc);
     Ok(())
 }
+
+// Twelve bytes at the begin of an image: the site, the replacement, the number, whether there is a callback, the lengths.
+#[test]
+fn entries_are_read(rt: HostRuntime) {
+    let cases: [([u8; 12], i64, i64, u16, bool, u8, u8); 6] = [
+        (
+            [0x00, 0x01, 0, 0, 0xfc, 0x1f, 0, 0, 0x01, 0x00, 8, 8],
+            0x100,
+            0x2000,
+            1,
+            false,
+            8,
+            8,
+        ),
+        (
+            [0x00, 0x01, 0, 0, 0xfc, 0x1f, 0, 0, 0x01, 0x80, 16, 0],
+            0x100,
+            0x2000,
+            1,
+            true,
+            16,
+            0,
+        ),
+        (
+            [0xff, 0xff, 0xff, 0xff, 0xfc, 0x1f, 0, 0, 0x01, 0x00, 8, 8],
+            -1,
+            0x2000,
+            1,
+            false,
+            8,
+            8,
+        ),
+        (
+            [0x00, 0x00, 0x00, 0x80, 0xfc, 0x1f, 0, 0, 0x01, 0x00, 8, 8],
+            -0x8000_0000,
+            0x2000,
+            1,
+            false,
+            8,
+            8,
+        ),
+        (
+            [0x00, 0x01, 0, 0, 0xf8, 0x2f, 0, 0, 0x01, 0x00, 8, 0xff],
+            0x100,
+            0x2ffc,
+            1,
+            false,
+            8,
+            0xff,
+        ),
+        (
+            [0x00, 0x01, 0, 0, 0xfc, 0xff, 0xff, 0x7f, 0xff, 0x7f, 8, 8],
+            0x100,
+            0x8000_0000,
+            0x7fff,
+            false,
+            8,
+            8,
+        ),
+    ];
+    for (bytes, site, repl, number, callback, orig_len, alt_len) in cases {
+        let expected = Entry {
+            site,
+            repl,
+            number,
+            callback,
+            orig_len,
+            alt_len,
+        };
+        assert_eq!(rt; Entry::read(&bytes, 0), expected);
+    }
+    let moved = Entry::read(&[0, 0, 0, 0, 0, 0, 0, 0, 0xff, 0xff, 0, 0], 0x1000);
+    assert_eq!(rt; moved.site, 0x1000);
+    assert_eq!(rt; moved.repl, 0x1004);
+    assert_eq!(rt; moved.number, 0x7fff);
+    assert!(rt; moved.callback);
+}
+
+#[test]
+fn callbacks_make_words(rt: HostRuntime) {
+    let orig = 0x1234_5678;
+    assert_eq!(rt;
+        callback_word(CallbackKind::Nops, 0, 0, Conduit::None, orig, orig),
+        0xd503_201f
+    );
+    assert_eq!(rt;
+        callback_word(CallbackKind::Conduit, 0, 0, Conduit::Hvc, orig, orig),
+        0xd400_0002
+    );
+    assert_eq!(rt;
+        callback_word(CallbackKind::Conduit, 0, 0, Conduit::Smc, orig, orig),
+        0xd400_0003
+    );
+    assert_eq!(rt;
+        callback_word(CallbackKind::Conduit, 0, 0, Conduit::None, orig, orig),
+        orig
+    );
+    assert_eq!(rt;
+        callback_word(CallbackKind::Keep, 5, 0, Conduit::Smc, 0, orig),
+        orig
+    );
+    let loads = [0xd290_0083, 0xf2b0_8883, 0xf2c0_0003, 0xf2e0_0003];
+    for (index, expected) in loads.iter().enumerate() {
+        let made = callback_word(
+            CallbackKind::FinalCtr,
+            index as u32,
+            0x8444_8004,
+            Conduit::None,
+            0xd53b_0023,
+            0,
+        );
+        assert_eq!(rt; made, *expected);
+    }
+}

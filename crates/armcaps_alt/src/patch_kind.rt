@@ -1,0 +1,23 @@
+/// Why an entry is refused, in the order in which the kinds are asked. All but the first are asked only of entries that are
+/// selected.
+#[derive(Clone, Copy, Debug, PartialEq, Eq)]
+pub enum PatchKind {
+    /// Its number isn't named.
+    UnknownCap,
+    /// Its site, its site's length, or without a callback its replacement is no multiple of four bytes.
+    Unaligned,
+    /// Its site isn't within the image.
+    SiteOutside,
+    /// Its replacement's length isn't its site's; with a callback, it isn't 0.
+    Length,
+    /// Its replacement isn't within the image.
+    ReplacementOutside,
+    /// Its callback isn't named.
+    UnknownCallback,
+    /// Its site hasn't the length that its callback makes: four words that load CTR_EL0, one word for a call of the firmware.
+    CallbackLength,
+    /// A word of its replacement takes an address in a way that isn't followed.
+    Literal,
+    /// A word of its replacement can't reach its target from the site.
+    Range,
+}

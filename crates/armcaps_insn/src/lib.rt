@@ -1,0 +1,18 @@
+//! A64 instructions that take an address from the place where they stand, and what such a word becomes when it moves.
+#![tactic(auto)]
+
+mod branch;
+mod correction;
+mod encodings;
+mod immediates;
+mod instruction;
+mod instruction_class;
+mod laws;
+#[cfg(test)]
+mod tests;
+
+pub use branch::branch_word;
+pub use correction::{FixRefused, correct};
+pub use instruction::Insn;
+pub use instruction_class::Class;
+pub use laws::{decoding_is_one_to_one, moving_has_one_answer};
