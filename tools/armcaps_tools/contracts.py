@@ -60,9 +60,11 @@ def words(text):
 
 
 def definitions_of(path, crate):
-    """The definitions of one file, in their order. One without a comment of its own shares that of the one before it."""
+    """The definitions of one file, in their order. One without a comment of its own shares that of the one before it, and the
+    first one that of the file."""
     text = path.read_text(encoding="utf-8")
-    found, comment, last = [], [], ""
+    head = re.match(r"(?:--[^\n]*\n)*", text).group()
+    found, comment, last = [], [], " ".join(line.lstrip("- ").strip() for line in head.splitlines())
     for block in re.split(r"\n(?=[^\s}])", text):
         if block.startswith("--"):
             comment.append(block.lstrip("- ").strip())
