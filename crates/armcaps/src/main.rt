@@ -2,11 +2,9 @@
 //! this file hands it the command line and the standard streams.
 #![tactic(auto)]
 
-ghost use Rattle.std.specs.Prelude.{◌≡◌, ◌≢◌, ◌≤◌, ◌⊎◌, map, string_bytes, false, ◌↔◌};
+ghost use Rattle.std.specs.Prelude.{map, string_bytes};
 ghost use Rattle.std.specs.Process.{exit_status};
-ghost use Rattle.armcaps_io.specs.Causes.{Rose};
-ghost use Rattle.armcaps_io.specs.Streams.{Keeps};
-ghost use Rattle.armcaps_top.specs.Run.{is_form, Writes, WritesPrefix, IsReadWhole, IsRefused};
+ghost use Rattle.armcaps_top.specs.Run.{Promises};
 
 use armcaps_io::{RealSink, RealSource, Sink, Source};
 use armcaps_top::run;
@@ -22,13 +20,11 @@ fn exit<S: Source, O: Sink, E: Sink>(
     out: &mut O,
     err: &mut E,
 ) -> ExitCode
-    ensures done { exit_status result ≡ 0 → Writes (S.left input.old) (O.held out.old) (O.held out.new) × IsReadWhole (S.left input.old) (S.left input.new) }
-    ensures usage { (exit_status result ≡ 2) ↔ (is_form (map string_bytes words.now) ≡ false) }
-    ensures refused { exit_status result ≡ 3 → IsRefused (S.left input.old) }
-    ensures read_fault { exit_status result ≡ 4 → Rose (S.faults input.old) (S.faults input.new) }
-    ensures write_fault { exit_status result ≡ 5 → Rose (O.faults out.old) (O.faults out.new) × WritesPrefix (S.left input.old) (O.held out.old) (O.held out.new) }
-    ensures silent { exit_status result ≢ 0 → exit_status result ≢ 5 → Keeps (O.held out.old) (O.held out.new) }
-    ensures statuses { (exit_status result ≡ 0) ⊎ ((2 ≤ exit_status result) × (exit_status result ≤ 6)) }
+    ensures { Promises (map string_bytes words.now)
+        (record { old = S.left input.old; new = S.left input.new; before = S.faults input.old; now = S.faults input.new })
+        (record { old = O.held out.old; new = O.held out.new; before = O.faults out.old; now = O.faults out.new })
+        (record { old = E.held err.old; new = E.held err.new; before = E.faults err.old; now = E.faults err.new })
+        (exit_status result) }
 {
     ExitCode::from(run(alloc, words, input, out, err))
 }

@@ -1,11 +1,12 @@
 -- What the reader keeps is what the lines before say.
-use Rattle.std.proofs.Common.{◌≡◌, ◌≢◌, ℕ, ◌<◌, ◌==◌, ◌&&◌, ◌||◌, not, Bool, true, false, nat_lt, nat_le, max, List, [], ◌∷◌, ◌++◌, length, Option, Some, None, is_some, unwrap_or, replicate, refl, sym, ap, ◌∙◌, arith}
+use Rattle.std.proofs.Common.{◌≡◌, ◌≢◌, ℕ, ◌<◌, ◌==◌, ◌&&◌, ◌||◌, not, Bool, true, false, nat_lt, nat_le, max, List, [], ◌∷◌, ◌++◌, length, Option, Some, None, is_some, unwrap_or, refl, sym, ap, ◌∙◌, arith}
 use Rattle.std.specs.Option.{option_map_or, option_and_then, option_to_list}
 use Rattle.std.specs.List.{list_any}
 use Rattle.armcaps_enc.specs.declared.register.SysReg.{SysReg}
 use Rattle.armcaps_enc.specs.Registers.{place_of}
+use Rattle.armcaps_text.specs.Cores.{GivenCore, zero_core}
 use Rattle.armcaps_text.specs.Words.{section_of}
-use Rattle.armcaps_text.specs.Earlier.{is_core, is_boot, is_command_line, is_finalise, core_count, register_of, step_of, names_place, lines_by_core, core_words, registers_named, boot_of, steps_of, cores_of}
+use Rattle.armcaps_text.specs.Earlier.{is_core, is_boot, is_command_line, is_finalise, core_count, register_of, step_of, names_place, lines_by_core, core_given, registers_named, boot_of, steps_of, cores_of}
 use Rattle.armcaps_text.specs.Kinds.{core_named, is_step_of, is_not_yet, is_out_of_order, names_register_twice, has_wrong_core_number, is_one_core_too_many, is_boot_step, is_out_of_turn, is_second_finalise, is_incomplete, is_misplaced, is_second_header, is_in_lower_section, lowest_kind}
 use Rattle.armcaps_text.specs.Reader.{State, is_final, is_finalise_step, not_yet_by, misplaced_by, out_of_order_by, with_word, twice_by, wrong_core_number_by, too_many_by, boot_step_by, out_of_turn_by, second_finalise_by, incomplete_by, lowest_by, learned}
 use Rattle.std.proofs.lemmas.Grind.{common_steps}
@@ -126,9 +127,9 @@ quiet_agrees state earlier line h no_core no_boot no_command no_register no_step
   section = section_more state earlier line h;
 }
 
-core_agrees : (state : State) (earlier : List ParsedLine) (line : ParsedLine) → Agrees state earlier → is_core line ≡ true → is_boot line ≡ false → is_command_line line ≡ false → step_of line ≡ None → Agrees (record state { section = max state.section (section_of line.word); cores = state.cores ++ replicate 17 0 ∷ []; named = [] }) (earlier ++ line ∷ [])
+core_agrees : (state : State) (earlier : List ParsedLine) (line : ParsedLine) → Agrees state earlier → is_core line ≡ true → is_boot line ≡ false → is_command_line line ≡ false → step_of line ≡ None → Agrees (record state { section = max state.section (section_of line.word); cores = state.cores ++ zero_core ∷ []; named = [] }) (earlier ++ line ∷ [])
 core_agrees state earlier line h core no_boot no_command no_step = record {
-  cores = ap (λ (cores : List (List ℕ)). cores ++ replicate 17 0 ∷ []) h.cores ∙ sym (cores_begun earlier line core);
+  cores = ap (λ (cores : List GivenCore). cores ++ zero_core ∷ []) h.cores ∙ sym (cores_begun earlier line core);
   begun = more ∙ sym (list_any-push_yes is_core earlier line core);
   named = sym (named_begun earlier line core);
   boot = h.boot ∙ sym (ap (option_and_then (λ line. line.core)) (find-push_no is_boot earlier line no_boot));
@@ -138,12 +139,12 @@ core_agrees state earlier line h core no_boot no_command no_step = record {
   section = section_more state earlier line h;
 }
   where
-    more : nat_lt 0 (length (state.cores ++ replicate 17 0 ∷ [])) ≡ true
+    more : nat_lt 0 (length (state.cores ++ zero_core ∷ [])) ≡ true
     more = grind (arith, common_steps, nat_tests)
 
 register_agrees : (state : State) (earlier : List ParsedLine) (line : ParsedLine) (register : SysReg) → Agrees state earlier → is_core line ≡ false → is_boot line ≡ false → is_command_line line ≡ false → step_of line ≡ None → register_of line ≡ Some register → ((place : ℕ) → names_place place line ≡ (place_of register == place)) → list_any is_core earlier ≡ true → list_any (λ other. place_of other == place_of register) (registers_named earlier) ≡ false → Agrees (record state { section = max state.section (section_of line.word); cores = with_word state.cores (place_of register) (unwrap_or line.value 0); named = state.named ++ register ∷ [] }) (earlier ++ line ∷ [])
 register_agrees state earlier line register h no_core no_boot no_command no_step one names begun fresh = record {
-  cores = ap (λ (cores : List (List ℕ)). with_word cores place word) h.cores ∙ sym (cores_set earlier line place no_core others here unnamed some);
+  cores = ap (λ (cores : List GivenCore). with_word cores place word) h.cores ∙ sym (cores_set earlier line place no_core others here unnamed some);
   begun = ap (nat_lt 0) (length-set state.cores _ _) ∙ h.begun ∙ sym (list_any-push_no is_core earlier line no_core);
   named = ap (λ (named : List SysReg). named ++ register ∷ []) h.named ∙ sym (named_more earlier line register no_core one some);
   boot = h.boot ∙ sym (ap (option_and_then (λ line. line.core)) (find-push_no is_boot earlier line no_boot));
@@ -162,7 +163,7 @@ register_agrees state earlier line register h no_core no_boot no_command no_step
     some : 0 < length (lines_by_core earlier)
     some =
         let within : nat_lt 0 (length state.cores) ≡ true = h.begun ∙ begun in
-        let same : length state.cores ≡ length (lines_by_core earlier) = ap length h.cores ∙ length-map (lines_by_core earlier) core_words in
+        let same : length state.cores ≡ length (lines_by_core earlier) = ap length h.cores ∙ length-map (lines_by_core earlier) core_given in
         grind (arith, nat_tests)
 
     others : (other : ℕ) → other ≢ place → names_place other line ≡ false

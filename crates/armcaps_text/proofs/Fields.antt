@@ -1,11 +1,12 @@
 -- What one more line changes in what the lines before say, part by part.
-use Rattle.std.proofs.Common.{◌≡◌, ◌≢◌, ℕ, ◌-◌, ◌<◌, ◌==◌, ◌||◌, Bool, true, false, List, [], ◌∷◌, ◌++◌, length, map, filter_map, Option, Some, None, unwrap_or, refl, sym, ap, ◌∙◌, arith, set, replicate}
+use Rattle.std.proofs.Common.{◌≡◌, ◌≢◌, ℕ, ◌-◌, ◌<◌, ◌==◌, ◌||◌, Bool, true, false, List, [], ◌∷◌, ◌++◌, length, map, filter_map, Option, Some, None, unwrap_or, refl, sym, ap, ◌∙◌, arith, set}
 use Rattle.std.specs.Option.{option_and_then, option_to_list}
 use Rattle.std.specs.List.{list_any, cons_option}
 use Rattle.std.proofs.lemmas.List.{map-append, length-map}
 use Rattle.armcaps_enc.specs.declared.register.SysReg.{SysReg}
 use Rattle.armcaps_enc.specs.Registers.{place_of, registers}
-use Rattle.armcaps_text.specs.Earlier.{is_core, is_finalise, core_count, register_of, step_of, names_place, lines_by_core, registers_named, steps_of, register_word, core_words, cores_of}
+use Rattle.armcaps_text.specs.Earlier.{is_core, is_finalise, core_count, register_of, step_of, names_place, lines_by_core, registers_named, steps_of, register_word, core_given, cores_of}
+use Rattle.armcaps_text.specs.Cores.{GivenCore, zero_core, with_core_word}
 use Rattle.armcaps_text.specs.Reader.{is_finalise_step, with_word}
 use Rattle.armcaps_text.proofs.Forms.{with_word_of}
 use Rattle.armcaps_text.proofs.Groups.{onto_last, last_group, groups_push_yes, groups_push_no, length_groups, last_group-push, last_group-onto_last}
@@ -15,43 +16,47 @@ use Rattle.armcaps_text.specs.declared.parsed.ParsedLine.{ParsedLine}
 use Rattle.armcaps_text.specs.declared.word.Word.{Word}
 use Rattle.armcaps_text.specs.declared.word.Word.TheVariants.{Skipped, NotYet, Unknown, Header, Core, Register, Boot, CommandLine, Online, Finalise, End}
 
+-- a core of these words
+abbrev as_core : List ℕ → GivenCore
+as_core words = record { words = words; lengths = 0 }
+
 -- a line that gives no register a word leaves a core's words
-words_quiet : (line : ParsedLine) → ((place : ℕ) → names_place place line ≡ false) → (lines : List ParsedLine) → core_words (lines ++ line ∷ []) ≡ core_words lines
+words_quiet : (line : ParsedLine) → ((place : ℕ) → names_place place line ≡ false) → (lines : List ParsedLine) → core_given (lines ++ line ∷ []) ≡ core_given lines
 words_quiet line h lines =
-    map-same (λ register. register_word (lines ++ line ∷ []) (place_of register)) (λ register. register_word lines (place_of register))
+    ap as_core (map-same (λ register. register_word (lines ++ line ∷ []) (place_of register)) (λ register. register_word lines (place_of register))
     (λ register. ap (λ (found : Option ParsedLine). unwrap_or (option_and_then (λ line. line.value) found) 0) (find-push_no (names_place (place_of register)) lines line (h (place_of register))))
-    registers
+    registers)
 
 -- and all cores' words, if it begins no core
 pub cores_quiet : (lines : List ParsedLine) (line : ParsedLine) → is_core line ≡ false → ((place : ℕ) → names_place place line ≡ false) → cores_of (lines ++ line ∷ []) ≡ cores_of lines
 cores_quiet lines line h quiet =
-    ap (map core_words) (groups_push_no is_core lines line h) ∙ map_onto_last-same core_words line (words_quiet line quiet) (lines_by_core lines)
+    ap (map core_given) (groups_push_no is_core lines line h) ∙ map_onto_last-same core_given line (words_quiet line quiet) (lines_by_core lines)
 
 -- a `core` line begins a core with words 0
-pub cores_begun : (lines : List ParsedLine) (line : ParsedLine) → is_core line ≡ true → cores_of (lines ++ line ∷ []) ≡ cores_of lines ++ replicate 17 0 ∷ []
+pub cores_begun : (lines : List ParsedLine) (line : ParsedLine) → is_core line ≡ true → cores_of (lines ++ line ∷ []) ≡ cores_of lines ++ zero_core ∷ []
 cores_begun lines line h =
-    ap (map core_words) (groups_push_yes is_core lines line h) ∙ map-append core_words (lines_by_core lines) ([] ∷ [])
+    ap (map core_given) (groups_push_yes is_core lines line h) ∙ map-append core_given (lines_by_core lines) ([] ∷ [])
 
 -- the number of cores
 pub cores_counted : (lines : List ParsedLine) → length (cores_of lines) ≡ core_count lines
-cores_counted lines = length-map (lines_by_core lines) core_words ∙ length_groups is_core lines
+cores_counted lines = length-map (lines_by_core lines) core_given ∙ length_groups is_core lines
 
 -- a register line sets one word of a core, if no line of the core has named the register
-words_set : (line : ParsedLine) (place : ℕ) → ((other : ℕ) → other ≢ place → names_place other line ≡ false) → names_place place line ≡ true → (lines : List ParsedLine) → list_any (names_place place) lines ≡ false → core_words (lines ++ line ∷ []) ≡ set (core_words lines) place (unwrap_or line.value 0)
+words_set : (line : ParsedLine) (place : ℕ) → ((other : ℕ) → other ≢ place → names_place other line ≡ false) → names_place place line ≡ true → (lines : List ParsedLine) → list_any (names_place place) lines ≡ false → core_given (lines ++ line ∷ []) ≡ with_core_word (core_given lines) place (unwrap_or line.value 0)
 words_set line place others here lines fresh =
-    map_range-set (register_word lines) (register_word (lines ++ line ∷ [])) place (unwrap_or line.value 0)
+    ap as_core (map_range-set (register_word lines) (register_word (lines ++ line ∷ [])) place (unwrap_or line.value 0)
     (λ other apart. ap (λ (found : Option ParsedLine). unwrap_or (option_and_then (λ line. line.value) found) 0) (find-push_no (names_place other) lines line (others other apart)))
     (ap (λ (found : Option ParsedLine). unwrap_or (option_and_then (λ line. line.value) found) 0) (find-push_yes (names_place place) lines line here (find_none (names_place place) lines fresh)))
-    17 0 place (omega arith)
+    17 0 place (omega arith))
 
 pub cores_set : (lines : List ParsedLine) (line : ParsedLine) (place : ℕ) → is_core line ≡ false → ((other : ℕ) → other ≢ place → names_place other line ≡ false) → names_place place line ≡ true → list_any (names_place place) (last_group (lines_by_core lines)) ≡ false → 0 < length (lines_by_core lines) → cores_of (lines ++ line ∷ []) ≡ with_word (cores_of lines) place (unwrap_or line.value 0)
 cores_set lines line place h others here fresh some =
     let groups : List (List ParsedLine) = lines_by_core lines in
     let last : ℕ = length (cores_of lines) - 1 in
-    ap (map core_words) (groups_push_no is_core lines line h)
-    ∙ map_onto_last-set core_words line groups some
-    ∙ ap (λ (words : List ℕ). set (cores_of lines) last words) (words_set line place others here (last_group groups) fresh)
-    ∙ ap (λ (words : List ℕ). set (cores_of lines) last (set words place (unwrap_or line.value 0))) (sym (map-last core_words groups [] some))
+    ap (map core_given) (groups_push_no is_core lines line h)
+    ∙ map_onto_last-set core_given line groups some
+    ∙ ap (λ (core : GivenCore). set (cores_of lines) last core) (words_set line place others here (last_group groups) fresh)
+    ∙ ap (λ (core : GivenCore). set (cores_of lines) last (with_core_word core place (unwrap_or line.value 0))) (sym (map-last core_given groups zero_core some))
 
 -- the registers named since the last `core` line
 named_onto_last-quiet : (line : ParsedLine) → register_of line ≡ None → (groups : List (List ParsedLine)) → filter_map register_of (last_group (onto_last line groups)) ≡ filter_map register_of (last_group groups)

@@ -1,21 +1,13 @@
--- The first token of a line and what it leaves.
-use Rattle.std.proofs.Common.{◌≡◌, ℕ, ◌+◌, ◌-◌, Bool, not, List, [], ◌∷◌, length, take, drop, Some, None, unwrap_or, sym, ap, ◌∙◌, arith}
+-- The text after the first token of a line.
+use Rattle.std.proofs.Common.{◌≡◌, ℕ, ◌+◌, ◌-◌, Bool, not, List, [], length, take, drop, Some, None, sym, ap, ◌∙◌, arith}
 use Rattle.std.specs.List.{position, position_or_len, after_first}
 use Rattle.std.proofs.lemmas.Grind.{common_steps}
-use Rattle.armcaps_cmdline.proofs.Pieces.{position_some, pieces_some, pieces_none}
+use Rattle.armcaps_lex.proofs.PieceLemmas.{position_some}
 use Rattle.armcaps_text.proofs.LineLemmas.{position_none}
-use Rattle.armcaps_text.specs.Tokens.{tokens, is_space, text_after_word}
+use Rattle.armcaps_text.specs.Tokens.{is_space, text_after_word}
 
 abbrev no_space : ℕ → Bool
 no_space = λ byte. not (is_space byte)
-
--- the first token of a line begins at its first byte that is no space, and ends before the next space
-pub tokens_some : (line rest : List ℕ) (start end : ℕ) → position no_space line ≡ Some start → rest ≡ take (length line - start) (drop start line) → end ≡ unwrap_or (position is_space rest) (length rest) → tokens line ≡ take end rest ∷ tokens (drop end rest)
-tokens_some = pieces_some is_space
-
--- a line of spaces alone has no token
-pub tokens_none : (line : List ℕ) → position no_space line ≡ None → tokens line ≡ []
-tokens_none = pieces_none is_space
 
 -- what stands after the first space after a line's first byte that is no space
 pub text_some : (line rest : List ℕ) (start end : ℕ) → position no_space line ≡ Some start → rest ≡ take (length line - start) (drop start line) → position is_space rest ≡ Some end → text_after_word line ≡ take (length rest - (end + 1)) (drop (end + 1) rest)

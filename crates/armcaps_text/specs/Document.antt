@@ -1,10 +1,8 @@
 -- What a machine text is, what it says, and where and why another is refused.
 use Rattle.std.specs.Prelude.{◌≡◌, ℕ, ◌+◌, ◌<◌, Bool, true, false, nat_lt, if◌then◌else◌, List, [], ◌∷◌, ◌++◌, length, map, sum_by, filter_map, find, Option, Some, None, option_map, unwrap_or}
 use Rattle.std.specs.List.{list_any, slice_get}
-use Rattle.armcaps_enc.specs.declared.register.SysReg.{SysReg}
-use Rattle.armcaps_tables.specs.Rows.{rows_of}
-use Rattle.armcaps_tables.specs.Overriding.{override_of}
-use Rattle.armcaps_cmdline.specs.Overrides.{command_line_override}
+use Rattle.armcaps_cmdline.specs.Overrides.{command_line_overrides}
+use Rattle.armcaps_text.specs.Cores.{GivenCore}
 use Rattle.armcaps_text.specs.Lines.{lines_of}
 use Rattle.armcaps_text.specs.Tokens.{text_after_word}
 use Rattle.armcaps_text.specs.Words.{parsed_line}
@@ -20,7 +18,7 @@ use Rattle.armcaps_text.specs.declared.word.Word.TheVariants.{End}
 
 -- what a text says: the 17 words of each core, the boot core, the command line and the steps
 pub record Reading : Type 0 where
-  pub cores : List (List ℕ)
+  pub cores : List GivenCore
   pub boot : ℕ
   pub cmdline : List ℕ
   pub steps : List StepLine
@@ -90,8 +88,7 @@ reading_of machine cmdline = record { cores = machine.cores.items; boot = machin
 pub record IsReadAs (input : List ℕ) (machine : Machine) (place : ℕ) : Type 0 where
   pub cmdline : List ℕ
   pub reads : outcome input ≡ Reads (reading_of machine cmdline) place
-  pub overrides : (register : SysReg) (index : ℕ) → index < length (rows_of register)
-      → override_of machine.overrides register index ≡ command_line_override cmdline register index
+  pub overrides : machine.overrides ≡ command_line_overrides cmdline
 
 -- the refusal is that of the input, unless memory ran out
 abbrev pub IsRefusalOf : List ℕ → TextRefused → Type 0

@@ -3,6 +3,7 @@ use Rattle.std.specs.Prelude.{ℕ, ◌==◌, Bool, true, false, List, [], map, f
 use Rattle.std.specs.List.{slice_split, last_or}
 use Rattle.armcaps_enc.specs.declared.register.SysReg.{SysReg}
 use Rattle.armcaps_enc.specs.Registers.{place_of, registers}
+use Rattle.armcaps_text.specs.Cores.{GivenCore}
 use Rattle.armcaps_text.specs.declared.parsed.ParsedLine.{ParsedLine}
 use Rattle.armcaps_text.specs.declared.word.Word.TheVariants.{Core, Register, Boot, CommandLine, Online, Finalise}
 use Rattle.armcaps_text.specs.declared.machine.StepLine.{StepLine}
@@ -61,9 +62,13 @@ abbrev pub register_word : List ParsedLine → ℕ → ℕ
 register_word lines place = unwrap_or (option_and_then (λ line. line.value) (find (names_place place) lines)) 0
 
 -- the 17 words of a core
-abbrev pub core_words : List ParsedLine → List ℕ
-core_words lines = map (λ register. register_word lines (place_of register)) registers
+abbrev pub words_given : List ParsedLine → List ℕ
+words_given lines = map (λ register. register_word lines (place_of register)) registers
 
--- the words of each core
-abbrev pub cores_of : List ParsedLine → List (List ℕ)
-cores_of lines = map core_words (lines_by_core lines)
+-- a core by its lines
+abbrev pub core_given : List ParsedLine → GivenCore
+core_given lines = record { words = words_given lines; lengths = 0 }
+
+-- each core
+abbrev pub cores_of : List ParsedLine → List GivenCore
+cores_of lines = map core_given (lines_by_core lines)

@@ -1,6 +1,7 @@
 pub mod Lines
 pub mod Tokens
 pub mod Words
+pub mod Cores
 pub mod Earlier
 pub mod Kinds
 pub mod Document

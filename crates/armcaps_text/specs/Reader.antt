@@ -1,9 +1,10 @@
 -- What the reader keeps of the lines that it has read. The rules are those of Kinds, asked of what it keeps.
-use Rattle.std.specs.Prelude.{◌≡◌, ℕ, ◌+◌, ◌-◌, ◌==◌, ◌&&◌, ◌||◌, not, max, Bool, true, false, nat_lt, nat_le, is_some, if◌then◌else◌, List, [], ◌∷◌, ◌++◌, length, replicate, slice_set, slice_index_or, Option, Some, None, option_map, unwrap_or}
+use Rattle.std.specs.Prelude.{◌≡◌, ℕ, ◌+◌, ◌-◌, ◌==◌, ◌&&◌, ◌||◌, not, max, Bool, true, false, nat_lt, nat_le, is_some, if◌then◌else◌, List, [], ◌∷◌, ◌++◌, length, slice_set, slice_index_or, Option, Some, None, option_map, unwrap_or}
 use Rattle.std.specs.Option.{option_map_or, option_to_list, option_copied}
 use Rattle.std.specs.List.{list_any}
 use Rattle.armcaps_enc.specs.declared.register.SysReg.{SysReg}
 use Rattle.armcaps_enc.specs.Registers.{place_of}
+use Rattle.armcaps_text.specs.Cores.{GivenCore, zero_core, with_core_word}
 use Rattle.armcaps_text.specs.Words.{section_of, is_header}
 use Rattle.armcaps_text.specs.Kinds.{core_named, is_skipped, is_unknown, is_second_header, has_wrong_token_count, has_bad_number, is_step_of, is_command_line_too_long, first_true}
 use Rattle.armcaps_text.specs.Document.{Reading}
@@ -17,10 +18,10 @@ use Rattle.armcaps_text.specs.declared.parsed.ParsedLine.{ParsedLine}
 use Rattle.armcaps_text.specs.declared.reader.Reader.{Reader}
 use Rattle.armcaps_text.specs.declared.word.Word.TheVariants.{NotYet, Core, Register, Boot, CommandLine, Online, Finalise}
 
--- the cores' words, the registers named since the last `core` line, the boot core, the command line, the steps, the
+-- the cores, the registers named since the last `core` line, the boot core, the command line, the steps, the
 -- highest section
 pub record State : Type 0 where
-  pub cores : List (List ℕ)
+  pub cores : List GivenCore
   pub named : List SysReg
   pub boot : Option ℕ
   pub command_line : Option (List ℕ)
@@ -127,18 +128,18 @@ abbrev pub IsRefusalBy : Option TextKind → ℕ → TextRefused → Type 0
 IsRefusalBy found lines (refused.Line line kind) = (found ≡ Some kind) × (line ≡ lines + 1)
 IsRefusalBy found lines refused.Memory = Unit {0}
 
--- the cores' words with one word of the last core replaced
-abbrev pub with_word : List (List ℕ) → ℕ → ℕ → List (List ℕ)
+-- the cores with one word of the last core replaced
+abbrev pub with_word : List GivenCore → ℕ → ℕ → List GivenCore
 with_word cores place word =
     let last = length cores - 1 in
-    slice_set cores last (slice_set (slice_index_or cores last []) place word)
+    slice_set cores last (with_core_word (slice_index_or cores last zero_core) place word)
 
 -- what is kept after one more line, which has this text after its word
 unfoldable pub learned : State → List ℕ → ParsedLine → State
 learned state text line =
     let later = record state { section = max state.section (section_of line.word) } in
     elim line.word [
-      | Core ↦ record later { cores = state.cores ++ replicate 17 0 ∷ []; named = [] }
+      | Core ↦ record later { cores = state.cores ++ zero_core ∷ []; named = [] }
       | Register reg ↦ record later { cores = with_word state.cores (place_of reg) (unwrap_or line.value 0); named = state.named ++ reg ∷ [] }
       | Boot ↦ record later { boot = line.core }
       | CommandLine ↦ record later { command_line = Some text }

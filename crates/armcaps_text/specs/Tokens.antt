@@ -1,7 +1,8 @@
 -- The tokens of a line, and the numbers among them.
-use Rattle.std.specs.Prelude.{ℕ, ◌==◌, Bool, not, nat_lt, nat_le, nat_eq, if◌then◌else◌, List, [], length, drop, codes, filter, Option, Some, None, option_and_then, unwrap_or}
-use Rattle.std.specs.List.{after_first, position_or_len, slice_get, slice_split, starts_with}
-use Rattle.armcaps_cmdline.specs.Values.{value_of}
+use Rattle.std.specs.Prelude.{ℕ, ◌==◌, Bool, not, nat_le, nat_eq, if◌then◌else◌, List, [], ◌∷◌, length, drop, codes, Option, Some, None, option_and_then, unwrap_or}
+use Rattle.std.specs.List.{after_first, position_or_len, slice_get, starts_with}
+use Rattle.armcaps_lex.specs.Digits.{value_of}
+use Rattle.armcaps_lex.specs.Pieces.{pieces}
 
 -- a space cuts a line; a tab or a carriage return is a byte like others
 abbrev pub is_space : ℕ → Bool
@@ -9,7 +10,7 @@ is_space byte = byte == 32
 
 -- what the spaces of a line cut it into, without the empty pieces
 abbrev pub tokens : List ℕ → List (List ℕ)
-tokens line = filter (λ piece. nat_lt 0 (length piece)) (slice_split is_space line)
+tokens line = pieces (32 ∷ []) line
 
 -- a token of a line by its place, from 0 on; empty where the line has fewer
 abbrev pub token_at : ℕ → List ℕ → List ℕ

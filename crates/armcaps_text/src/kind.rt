@@ -55,7 +55,7 @@ pub enum TextRefused {
 }
 
 impl TextKind {
-    ghost use Rattle.std.specs.Prelude.{◌≡◌};
+    ghost use Rattle.std.specs.Prelude.{◌≡◌, ◌≤◌, length};
     ghost use Rattle.armcaps_text.specs.Refusal.{kind_number, kind_word};
 
     /// The number by which the kind is reported.
@@ -68,7 +68,8 @@ impl TextKind {
     /// The word by which the kind is reported.
     #[tactic(auto, unfolding(crate::specs::Refusal::kind_word))]
     pub fn word(self) -> &'static str
-        ensures { result.now ≡ kind_word self }
+        ensures word { result.now ≡ kind_word self }
+        ensures short { length result.now ≤ 16 }
     {
         match self {
             TextKind::NotYet => "not-yet",

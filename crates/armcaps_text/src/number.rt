@@ -2,7 +2,7 @@
 ghost use Rattle.std.specs.Prelude.{◌≡◌};
 ghost use Rattle.armcaps_text.specs.Tokens.{number_of, core_of};
 
-use armcaps_cmdline::value_of;
+use armcaps_lex::value_of;
 
 // A decimal number has at most this many bytes.
 const DECIMAL_BYTES: usize = 20;

@@ -27,12 +27,10 @@ pub struct Reader<'a> {
 }
 
 impl<'a> Reader<'a> {
-    ghost use Rattle.std.specs.Prelude.{◌≡◌, ℕ, length, unwrap_or, [], ◌∷◌, ◌++◌, ◌+◌, ◌<◌, None, IsSome, IfOk, IfErr, max, replicate};
-    ghost use Rattle.armcaps_enc.specs.declared.register.SysReg.{SysReg};
+    ghost use Rattle.std.specs.Prelude.{◌≡◌, ℕ, length, unwrap_or, [], ◌∷◌, ◌++◌, ◌+◌, ◌<◌, None, IsSome, IfOk, IfErr, max};
     ghost use Rattle.armcaps_enc.specs.Registers.{place_of};
-    ghost use Rattle.armcaps_tables.specs.Rows.{rows_of};
-    ghost use Rattle.armcaps_tables.specs.Overriding.{override_of};
-    ghost use Rattle.armcaps_cmdline.specs.Overrides.{command_line_override};
+    ghost use Rattle.armcaps_cmdline.specs.Overrides.{command_line_overrides};
+    ghost use Rattle.armcaps_text.specs.Cores.{zero_core};
     ghost use Rattle.armcaps_text.specs.Tokens.{text_after_word};
     ghost use Rattle.armcaps_text.specs.Words.{section_of, parsed_line};
     ghost use Rattle.armcaps_text.specs.Document.{is_last, reading_of};
@@ -54,7 +52,7 @@ impl<'a> Reader<'a> {
 
     // Begins a core.
     fn begin_core(&mut self) -> Result<(), AllocError>
-        ensures { IfOk result (λ _. state_of self.new ≡ record (state_of self.old) { cores = (state_of self.old).cores ++ replicate 17 0 ∷ []; named = [] }) }
+        ensures { IfOk result (λ _. state_of self.new ≡ record (state_of self.old) { cores = (state_of self.old).cores ++ zero_core ∷ []; named = [] }) }
     {
         self.cores.push(CoreRegs::zero())?;
         self.named.clear();
@@ -139,7 +137,7 @@ impl<'a> Reader<'a> {
     pub fn machine(self) -> Machine
         requires { IsSome (state_of self).boot }
         ensures reading { reading_of result (unwrap_or (state_of self.entry).command_line []) ≡ reading_by (state_of self.entry) }
-        ensures overrides { (register : SysReg) (index : ℕ) → index < length (rows_of register) → override_of result.overrides register index ≡ command_line_override (unwrap_or (state_of self.entry).command_line []) register index }
+        ensures overrides { result.overrides ≡ command_line_overrides (unwrap_or (state_of self.entry).command_line []) }
     {
         let Reader {
             cores,

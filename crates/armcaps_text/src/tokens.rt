@@ -3,6 +3,7 @@ ghost use Rattle.std.specs.Prelude.{◌≡◌, ◌+◌, ◌<◌, ◌≤◌, ◌=
 ghost use Rattle.armcaps_text.specs.Tokens.{tokens, token_at, is_space, text_after_word};
 
 use crate::lines::find_byte;
+use armcaps_lex::next_piece;
 
 const SPACE: u8 = b' ';
 
@@ -22,15 +23,11 @@ fn start_of(line: &[u8]) -> Option<usize>
 }
 
 // The first token of a line and what stands after it.
-#[tactic(auto, using(crate::proofs::TokenLemmas::tokens_some, crate::proofs::TokenLemmas::tokens_none))]
 fn next_token(line: &[u8]) -> Option<(&[u8], &[u8])>
     ensures cut { MatchOption result (tokens line.now ≡ []) (λ cut. tokens line.now ≡ cut.0.now ∷ tokens cut.1.now) }
     ensures shorter { MatchOption result (tokens line.now ≡ []) (λ cut. length cut.1.now < length line.now) }
 {
-    let start = start_of(line)?;
-    let line = &line[start..];
-    let end = find_byte(line, SPACE).unwrap_or(line.len());
-    Some(line.split_at(end))
+    next_piece(&[SPACE], line)
 }
 
 // How many tokens a line has.

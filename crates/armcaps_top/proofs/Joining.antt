@@ -1,39 +1,41 @@
 -- The groups of a report, joined.
-use Rattle.std.proofs.Common.{◌≡◌, ℕ, ℤ, List, [], ◌++◌, length, Option, refl, ◌∙◌, ap}
+use Rattle.std.proofs.Common.{◌≡◌, ℕ, List, ◌++◌, length, refl, ◌∙◌, ap}
 use Rattle.std.specs.Prelude.{codes, slice_index_or}
 use Rattle.std.specs.List.{flat_map, range_with_len}
 use Rattle.armcaps_enc.specs.Registers.{tracked}
-use Rattle.armcaps_tables.specs.Core.{core_word}
-use Rattle.armcaps_sanit.specs.System.{system_word, system_words}
+use Rattle.armcaps_tables.specs.Core.{word_at}
+use Rattle.armcaps_sanit.specs.System.{IsSystemOf, system_word}
 use Rattle.armcaps_sanit.specs.Users.{user_word}
+use Rattle.armcaps_sanit.proofs.SystemWords.{system_word_at}
+use Rattle.armcaps_tables.specs.Overriding.{FieldOverrides}
+use Rattle.armcaps_text.specs.Cores.{zero_core}
 use Rattle.armcaps_top.specs.Report.{varies_any}
 use Rattle.armcaps_text.specs.Document.{Reading}
 use Rattle.armcaps_top.specs.Admission.{admitted_cores, role_of}
 use Rattle.armcaps_top.specs.Report.{core_line, note_lines, register_line, report_of, user_line, varies_line}
-use Rattle.armcaps_top.proofs.Agreeing.{core_word_map, flat_map-same}
+use Rattle.armcaps_top.proofs.Agreeing.{flat_map-same}
 
 -- the lines of the system's words
-words_lines : (overrides : List (Option ℤ)) (reading : Reading) (system : List ℕ) → system ≡ system_words overrides (admitted_cores reading) →
-    flat_map (λ register. register_line register (core_word system register)) tracked ≡
+words_lines : (overrides : FieldOverrides) (reading : Reading) (system : List ℕ) → IsSystemOf overrides (admitted_cores reading) system →
+    flat_map (λ register. register_line register (word_at system register)) tracked ≡
     flat_map (λ register. register_line register (system_word overrides (admitted_cores reading) register)) tracked
-unfolding system_words
-words_lines overrides reading system words =
-    flat_map-same (λ register. register_line register (core_word system register))
+words_lines overrides reading system is =
+    flat_map-same (λ register. register_line register (word_at system register))
     (λ register. register_line register (system_word overrides (admitted_cores reading) register)) tracked
-    (λ register. ap (register_line register) (ap (λ (words : List ℕ). core_word words register) words ∙ core_word_map (system_word overrides (admitted_cores reading)) register))
+    (λ register. ap (register_line register) (system_word_at overrides (admitted_cores reading) system register is))
 
 -- a text that each group was added to in turn
-pub record IsBuilt (overrides : List (Option ℤ)) (reading : Reading) (system head cores words users variations notes text : List ℕ) : Type 0 where
-  pub system_is : system ≡ system_words overrides (admitted_cores reading)
+pub record IsBuilt (overrides : FieldOverrides) (reading : Reading) (system head cores words users variations notes text : List ℕ) : Type 0 where
+  pub system_is : IsSystemOf overrides (admitted_cores reading) system
   pub head_is : head ≡ codes "armcaps report 1\n"
   pub cores_is : cores ≡ head ++ flat_map (λ core. core_line core (role_of reading core)) (range_with_len 0 (length reading.cores))
-  pub words_is : words ≡ cores ++ flat_map (λ register. register_line register (core_word system register)) tracked
+  pub words_is : words ≡ cores ++ flat_map (λ register. register_line register (word_at system register)) tracked
   pub users_is : users ≡ words ++ flat_map (λ register. user_line register (user_word overrides (admitted_cores reading) register)) tracked
-  pub variations_is : variations ≡ users ++ flat_map (λ register. varies_line register (varies_any (slice_index_or reading.cores reading.boot []) (admitted_cores reading) register)) tracked
-  pub notes_is : notes ≡ variations ++ flat_map (note_lines overrides (slice_index_or reading.cores reading.boot [])) tracked
+  pub variations_is : variations ≡ users ++ flat_map (λ register. varies_line register (varies_any (slice_index_or reading.cores reading.boot zero_core) (admitted_cores reading) register)) tracked
+  pub notes_is : notes ≡ variations ++ flat_map (note_lines overrides (slice_index_or reading.cores reading.boot zero_core)) tracked
   pub text_is : text ≡ notes ++ codes "end\n"
 
-pub report_built : (overrides : List (Option ℤ)) (reading : Reading) (system head cores words users variations notes text : List ℕ) →
+pub report_built : (overrides : FieldOverrides) (reading : Reading) (system head cores words users variations notes text : List ℕ) →
     IsBuilt overrides reading system head cores words users variations notes text → text ≡ report_of overrides reading
 unfolding report_of
 report_built overrides reading system head cores words users variations notes text built =

@@ -5,6 +5,8 @@ pub mod Standing
 pub mod Agreeing
 pub mod Joining
 pub mod Refused
-pub mod Overrides
 pub mod Searching
 pub mod Hexadecimal
+pub mod Texts
+pub mod FirstSteps
+pub mod DocumentFields

@@ -26,7 +26,7 @@ too_long (text.Refuses line kind) size longer within = refl
 
 pub no_document : EndsWithin → (refusal : Refusal) (input : List ℕ) → IsRefusalOf refusal input → document input ≡ None
 unfolding document
-no_document within (Line line kind) input refused = ap (λ (found : Outcome). whole_reading found (length input)) refused
+no_document within (Line line kind) input refused = ap (λ (found : Outcome). whole_reading found (length input)) refused.1
 no_document within TooLong input longer =
     too_long (outcome input) (length input) (omega arith) (λ reading place reads. (within input reading place reads).1)
 no_document within (Trailing extra) input followed =

@@ -5,18 +5,18 @@ use Rattle.std.specs.List.{list_any, range_with_len}
 use Rattle.std.proofs.lemmas.List.FromFn.{fill_by_all, length-map-range_with_len}
 use Rattle.std.proofs.lemmas.Grind.{get_or-set_at}
 use Rattle.armcaps_text.specs.Document.{Reading}
-use Rattle.armcaps_top.specs.Admission.{brings_up, role_of}
+use Rattle.armcaps_top.specs.Admission.{brings_up, early_steps, role_of}
 use Rattle.armcaps_top.specs.declared.admission.Role.{Role}
 use Rattle.armcaps_top.specs.declared.admission.Role.TheVariants.{Boot, Early, Absent}
 
 role_at : (reading : Reading) (roles : List Role) (core : ℕ) → reading.boot < length roles → core < length roles →
-    get_or roles core Absent ≡ (if list_any (brings_up core) reading.steps then Early else Absent) →
+    get_or roles core Absent ≡ (if list_any (brings_up core) (early_steps reading) then Early else Absent) →
     get_or (set roles reading.boot Boot) core Absent ≡ role_of reading core
 role_at reading roles core boot inside stepped = grind (arith, get_or-set_at, get_or-set_other, stepped)
 
 -- the early cores' roles, with the boot core's role set
 pub all_roles : (reading : Reading) (roles : List Role) (count : ℕ) → reading.boot < count → length roles ≡ count →
-    ((core : ℕ) → core < count → get_or roles core Absent ≡ (if list_any (brings_up core) reading.steps then Early else Absent)) →
+    ((core : ℕ) → core < count → get_or roles core Absent ≡ (if list_any (brings_up core) (early_steps reading) then Early else Absent)) →
     set roles reading.boot Boot ≡ map (role_of reading) (range_with_len 0 count)
 all_roles reading roles count boot same stepped =
     fill_by_all (role_of reading) (set roles reading.boot Boot) count Absent (length-set roles reading.boot Boot ∙ same)

@@ -9,6 +9,7 @@ use Rattle.armcaps_enc.specs.declared.register.SysReg.{SysReg}
 use Rattle.armcaps_tables.specs.Core.{Core}
 use Rattle.armcaps_sanit.specs.Varying.{core_varies}
 use Rattle.armcaps_top.specs.Report.{varies_any}
+use Rattle.armcaps_text.specs.Cores.{zero_core}
 use Rattle.armcaps_text.specs.Document.{Reading}
 use Rattle.armcaps_top.specs.Admission.{admitted_cores, cores_where, is_admitted, role_of}
 use Rattle.armcaps_top.proofs.Admitted.{chosen, split_at}
@@ -74,5 +75,5 @@ some_varies boot core reading register place inside here both =
     sym (any_where_some (λ core. core_varies boot core register) (λ core. is_admitted (role_of reading core)) reading.cores place core inside here each.0 each.1)
 
 -- the boot core, as an index reads it
-pub boot_read : (cores : List Core) (boot : ℕ) (core : Core) → boot < length cores → core ≡ get_or cores boot core → core ≡ get_or cores boot []
-boot_read cores boot core inside read = sym (get_or_from_slice_get cores boot core [] (slice_get_read cores _ boot core refl inside read))
+pub boot_read : (cores : List Core) (boot : ℕ) (core : Core) → boot < length cores → core ≡ get_or cores boot core → core ≡ get_or cores boot zero_core
+boot_read cores boot core inside read = sym (get_or_from_slice_get cores boot core zero_core (slice_get_read cores _ boot core refl inside read))

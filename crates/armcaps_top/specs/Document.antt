@@ -1,9 +1,6 @@
 -- Which inputs are documents. The format is this project's own.
-use Rattle.std.specs.Prelude.{◌≡◌, ℕ, ◌==◌, ◌<◌, List, length, Option, None, Some, if◌then◌else◌}
-use Rattle.armcaps_enc.specs.declared.register.SysReg.{SysReg}
-use Rattle.armcaps_tables.specs.Overriding.{override_of}
-use Rattle.armcaps_tables.specs.Rows.{rows_of}
-use Rattle.armcaps_cmdline.specs.Overrides.{command_line_override}
+use Rattle.std.specs.Prelude.{◌≡◌, ℕ, ◌==◌, List, length, Option, None, Some, if◌then◌else◌}
+use Rattle.armcaps_cmdline.specs.Overrides.{command_line_overrides}
 use Rattle.armcaps_text.specs.Document.{Reading, Outcome, Reads, Refuses, outcome, reading_of}
 use Rattle.armcaps_text.specs.declared.machine.Machine.{Machine}
 
@@ -20,5 +17,4 @@ document input = whole_reading (outcome input) (length input)
 pub record IsMachineOf (input : List ℕ) (machine : Machine) : Type 0 where
   pub cmdline : List ℕ
   pub reads : document input ≡ Some (reading_of machine cmdline)
-  pub overrides : (register : SysReg) (index : ℕ) → index < length (rows_of register)
-      → override_of machine.overrides register index ≡ command_line_override cmdline register index
+  pub overrides : machine.overrides ≡ command_line_overrides cmdline

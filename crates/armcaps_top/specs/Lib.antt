@@ -3,5 +3,5 @@ pub mod Document
 pub mod Report
 pub mod Refusals
 pub mod Ending
+pub mod Telling
 pub mod Run
-pub mod Overriding

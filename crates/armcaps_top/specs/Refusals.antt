@@ -1,5 +1,5 @@
 -- Why an input is no document, and how that is said. The limits and texts are this project's own.
-use Rattle.std.specs.Prelude.{◌≡◌, ℕ, ◌+◌, ◌<◌, ◌++◌, List, codes, length}
+use Rattle.std.specs.Prelude.{◌≡◌, ℕ, ◌+◌, ◌<◌, ◌≤◌, ◌++◌, List, codes, length}
 use Rattle.std.specs.Fmt.{decimal}
 use Rattle.armcaps_text.specs.Document.{Reading, Reads, outcome}
 use Rattle.armcaps_text.specs.Document as text
@@ -10,17 +10,22 @@ use Rattle.armcaps_top.specs.declared.ending.Ending.TheVariants.{Done, Usage, Re
 use Rattle.armcaps_top.specs.declared.refusal.Refusal.{Refusal}
 use Rattle.armcaps_top.specs.declared.refusal.Refusal.TheVariants.{Line, TooLong, Trailing}
 
+-- the input has no more bytes than it may
+abbrev pub IsWithinLimit : List ℕ → Type 0
+IsWithinLimit input = length input ≤ 135_266_304
+
 -- bytes follow the last line of the text, this many
 pub record IsFollowed (extra : ℕ) (input : List ℕ) : Type 0 where
   pub reading : Reading
   pub place : ℕ
   pub reads : outcome input ≡ Reads reading place
+  pub limit : IsWithinLimit input
   pub some : 0 < extra
   pub rest : place + extra ≡ length input
 
 -- the refusal is that of the input: a kind at a line of its text, more bytes than the limit, or bytes after its last line
 abbrev pub IsRefusalOf : Refusal → List ℕ → Type 0
-IsRefusalOf (Line line kind) input = outcome input ≡ text.Refuses line kind
+IsRefusalOf (Line line kind) input = IsWithinLimit input × (outcome input ≡ text.Refuses line kind)
 IsRefusalOf TooLong input = 135_266_304 < length input
 IsRefusalOf (Trailing extra) input = IsFollowed extra input
 

@@ -1,12 +1,12 @@
 //! Which cores a machine admits, and the system that they make.
 
-ghost use Rattle.std.specs.Prelude.{[], ◌≡◌, ◌≢◌, ◌<◌, ◌++◌, ◌∷◌, List, Option, ℤ, ℕ, length, map, vec_len, IfOk, if◌then◌else◌, slice_index_or};
-ghost use Rattle.std.specs.List.{range_with_len};
-ghost use Rattle.armcaps_sanit.specs.System.{system_words};
+ghost use Rattle.std.specs.Prelude.{[], ◌≡◌, ◌≢◌, ◌<◌, ◌++◌, ◌∷◌, List, ℕ, length, map, vec_len, IfOk, if◌then◌else◌, position, slice_index_or};
+ghost use Rattle.std.specs.List.{before_first, range_with_len};
+ghost use Rattle.armcaps_sanit.specs.System.{IsSystemOf};
 ghost use Rattle.armcaps_tables.specs.Core.{Core};
-ghost use Rattle.armcaps_tables.specs.Overriding.{AllFit};
+ghost use Rattle.armcaps_tables.specs.Overriding.{FieldOverrides};
 ghost use Rattle.armcaps_text.specs.Document.{reading_of};
-ghost use Rattle.armcaps_top.specs.Admission.{admitted_cores, brings_up, role_of};
+ghost use Rattle.armcaps_top.specs.Admission.{admitted_cores, brings_up, is_finalise, role_of};
 
 use armcaps_sanit::System;
 use armcaps_tables::CoreRegs;
@@ -62,13 +62,40 @@ fn note_step(roles: &mut [Role], step: StepLine)
     }
 }
 
+// The steps before finalisation.
+fn early_steps(steps: &[StepLine]) -> &[StepLine]
+    ensures { result.now ≡ before_first is_finalise steps.now }
+{
+    match finalise_at(steps) {
+        Some(end) => &steps[..end],
+        None => steps,
+    }
+}
+
+// The place of finalisation.
+fn finalise_at(steps: &[StepLine]) -> Option<usize>
+    ensures { result ≡ position is_finalise steps.now }
+{
+    steps.iter().position(|step| is_finalise(*step))
+}
+
+// Whether a step is finalisation.
+fn is_finalise(step: StepLine) -> bool
+    ensures { result ≡ is_finalise step }
+{
+    match step {
+        StepLine::Online(_) => false,
+        StepLine::Finalise => true,
+    }
+}
+
 /// The role of each core, by its number.
 pub fn roles(alloc: Global, machine: &Machine) -> Result<Vec<Role>, AllocError>
     requires { machine.now.boot < vec_len machine.now.cores }
     ensures { IfOk result (λ roles. roles.items ≡ map (role_of (reading_of machine.now [])) (range_with_len 0 (vec_len machine.now.cores))) }
 {
     let mut roles = vec![in alloc; Role::Absent; machine.cores.len()]?;
-    for step in &machine.steps {
+    for step in early_steps(&machine.steps) {
         note_step(&mut roles, *step);
     }
     roles[machine.boot as usize] = Role::Boot;
@@ -77,8 +104,8 @@ pub fn roles(alloc: Global, machine: &Machine) -> Result<Vec<Role>, AllocError>
 
 // Takes an early core into the system.
 fn admit_early(system: &mut System, role: Role, core: &CoreRegs)
-    ensures early { role ≡ Role.Early → (overrides : List (Option ℤ)) (before after : List Core) → AllFit overrides → 0 < length (before ++ after) →
-        system.old ≡ system_words overrides (before ++ after) → system.new ≡ system_words overrides (before ++ core.now ∷ after) }
+    ensures early { role ≡ Role.Early → (overrides : FieldOverrides) (before after : List Core) →
+        IsSystemOf overrides (before ++ after) system.old → IsSystemOf overrides (before ++ core.now ∷ after) system.new }
     ensures other { role ≢ Role.Early → system.new ≡ system.old }
 {
     if let Role::Early = role {
@@ -90,9 +117,7 @@ fn admit_early(system: &mut System, role: Role, core: &CoreRegs)
 pub fn system(machine: &Machine, roles: &[Role]) -> System
     requires boot { machine.now.boot < vec_len machine.now.cores }
     requires roles { roles.now ≡ map (role_of (reading_of machine.now [])) (range_with_len 0 (vec_len machine.now.cores)) }
-    ensures words { result ≡ system_words machine.now.overrides (admitted_cores (reading_of machine.now [])) }
-    ensures fit { AllFit machine.now.overrides }
-    ensures some { 0 < length (admitted_cores (reading_of machine.now [])) }
+    ensures { IsSystemOf machine.now.overrides (admitted_cores (reading_of machine.now [])) result }
 {
     let mut system = System::new(&machine.cores[machine.boot as usize], &machine.overrides);
     for (core, registers) in machine.cores.iter().enumerate() {

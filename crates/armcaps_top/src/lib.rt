@@ -3,9 +3,11 @@
 
 mod admission;
 mod ending;
+pub mod laws;
 mod program;
 mod refusal;
 mod report;
+mod telling;
 #[cfg(test)]
 mod tests;
 mod varying;

@@ -1,19 +1,20 @@
 //! The report of a machine.
 
-ghost use Rattle.std.specs.Prelude.{[], ◌≡◌, ◌<◌, ◌++◌, ℕ, ℤ, List, Option, IfOk, OnOk, length, map, slice_index_or, string_bytes, vec_len};
+ghost use Rattle.std.specs.Prelude.{[], ◌≡◌, ◌<◌, ◌++◌, ℕ, List, IfOk, OnOk, length, map, slice_index_or, string_bytes, vec_len};
 ghost use Rattle.std.specs.List.{flat_map, range_with_len};
 ghost use Rattle.armcaps_enc.specs.Registers.{tracked};
-ghost use Rattle.armcaps_tables.specs.Core.{Core, core_word};
-ghost use Rattle.armcaps_tables.specs.Overriding.{AllFit};
-ghost use Rattle.armcaps_sanit.specs.System.{system_words};
+ghost use Rattle.armcaps_tables.specs.Core.{Core, word_at};
+ghost use Rattle.armcaps_tables.specs.Overriding.{FieldOverrides};
+ghost use Rattle.armcaps_sanit.specs.System.{IsSystemOf};
 ghost use Rattle.armcaps_sanit.specs.Users.{user_word};
 ghost use Rattle.armcaps_top.specs.Report.{varies_any};
 ghost use Rattle.armcaps_tables.specs.Row.{Row};
 ghost use Rattle.armcaps_tables.specs.RowOf.{row_of};
 ghost use Rattle.armcaps_tables.specs.Rows.{rows_of};
+ghost use Rattle.armcaps_text.specs.Cores.{zero_core};
 ghost use Rattle.armcaps_text.specs.Document.{reading_of};
 ghost use Rattle.armcaps_top.specs.Admission.{admitted_cores, role_of};
-ghost use Rattle.armcaps_top.specs.Report.{core_line, register_line, user_line, varies_line, short_name, note_line, note_line_at, note_lines, report_of};
+ghost use Rattle.armcaps_top.specs.Report.{core_line, register_line, user_line, varies_line, note_line, note_line_at, note_lines, report_of};
 
 use crate::admission::{Role, roles, system};
 use crate::varying::varies_somewhere;
@@ -62,37 +63,11 @@ fn push_variation(text: &mut String, register: SysReg, varies: bool) -> Result<(
     }
 }
 
-/// A register's name without its exception level.
-#[tactic(auto, unfolding(crate::specs::Report::short_name))]
-fn short_name(register: SysReg) -> &'static str
-    ensures { result.now ≡ short_name register }
-{
-    match register {
-        SysReg::MidrEl1 => "midr",
-        SysReg::MpidrEl1 => "mpidr",
-        SysReg::RevidrEl1 => "revidr",
-        SysReg::IdAa64Pfr0El1 => "id_aa64pfr0",
-        SysReg::IdAa64Pfr1El1 => "id_aa64pfr1",
-        SysReg::IdAa64Zfr0El1 => "id_aa64zfr0",
-        SysReg::IdAa64Smfr0El1 => "id_aa64smfr0",
-        SysReg::IdAa64Dfr0El1 => "id_aa64dfr0",
-        SysReg::IdAa64Isar0El1 => "id_aa64isar0",
-        SysReg::IdAa64Isar1El1 => "id_aa64isar1",
-        SysReg::IdAa64Isar2El1 => "id_aa64isar2",
-        SysReg::IdAa64Mmfr0El1 => "id_aa64mmfr0",
-        SysReg::IdAa64Mmfr1El1 => "id_aa64mmfr1",
-        SysReg::IdAa64Mmfr2El1 => "id_aa64mmfr2",
-        SysReg::IdAa64Mmfr3El1 => "id_aa64mmfr3",
-        SysReg::CtrEl0 => "ctr",
-        SysReg::DczidEl0 => "dczid",
-    }
-}
-
 /// Adds a field's line, where it has an override.
 fn push_note(text: &mut String, field: &FieldRow, note: Note) -> Result<(), AllocError>
     ensures { OnOk result (string_bytes text.new ≡ string_bytes text.old ++ note_line field.now.reg (row_of field.now) note) }
 {
-    let register = short_name(field.reg);
+    let register = field.reg.short_name();
     let name = field.name;
     match note {
         Note::None => Ok(()),
@@ -149,7 +124,7 @@ fn push_all_notes(
 
 /// Adds the lines of the system registers.
 fn push_registers(text: &mut String, system: &System) -> Result<(), AllocError>
-    ensures { OnOk result (string_bytes text.new ≡ string_bytes text.old ++ flat_map (λ register. register_line register (core_word system.now register)) tracked) }
+    ensures { OnOk result (string_bytes text.new ≡ string_bytes text.old ++ flat_map (λ register. register_line register (word_at system.now register)) tracked) }
 {
     for register in SysReg::TRACKED {
         push_register(text, register, system.word(register))?;
@@ -159,7 +134,7 @@ fn push_registers(text: &mut String, system: &System) -> Result<(), AllocError>
 
 /// Adds the lines of the registers as users see them.
 fn push_user_words(text: &mut String, system: &System) -> Result<(), AllocError>
-    ensures { OnOk result ((overrides : List (Option ℤ)) (cores : List Core) → AllFit overrides → 0 < length cores → system.now ≡ system_words overrides cores →
+    ensures { OnOk result ((overrides : FieldOverrides) (cores : List Core) → IsSystemOf overrides cores system.now →
         string_bytes text.new ≡ string_bytes text.old ++ flat_map (λ register. user_line register (user_word overrides cores register)) tracked) }
 {
     for register in SysReg::TRACKED {
@@ -173,7 +148,7 @@ fn push_variations(text: &mut String, machine: &Machine, roles: &[Role]) -> Resu
     requires boot { machine.now.boot < vec_len machine.now.cores }
     requires roles { roles.now ≡ map (role_of (reading_of machine.now [])) (range_with_len 0 (vec_len machine.now.cores)) }
     ensures { OnOk result (string_bytes text.new ≡ string_bytes text.old ++
-        flat_map (λ register. varies_line register (varies_any (slice_index_or machine.now.cores.items machine.now.boot []) (admitted_cores (reading_of machine.now [])) register)) tracked) }
+        flat_map (λ register. varies_line register (varies_any (slice_index_or machine.now.cores.items machine.now.boot zero_core) (admitted_cores (reading_of machine.now [])) register)) tracked) }
 {
     for register in SysReg::TRACKED {
         push_variation(text, register, varies_somewhere(machine, roles, register))?;
@@ -193,7 +168,7 @@ fn push_cores(text: &mut String, roles: &[Role]) -> Result<(), AllocError>
 }
 
 /// The report of a machine.
-#[tactic(auto, unfolding(crate::specs::Report::report_of, armcaps_sanit::specs::System::system_words), using(crate::proofs::Agreeing::core_word_map))]
+#[tactic(auto, unfolding(crate::specs::Report::report_of))]
 pub fn report(alloc: Global, machine: &Machine) -> Result<String, AllocError>
     requires { machine.now.boot < vec_len machine.now.cores }
     ensures { IfOk result (λ text. string_bytes text ≡ report_of machine.now.overrides (reading_of machine.now [])) }

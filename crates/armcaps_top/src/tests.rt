@@ -252,6 +252,40 @@ fn overrides(rt: HostRuntime) -> Result<(), Fail> {
     Ok(())
 }
 
+/// A refusal far down a text.
+#[test]
+fn refusal_far_down(rt: HostRuntime) -> Result<(), Fail> {
+    let alloc = rt.alloc();
+    let mut input = String::from_str(alloc, "armcaps 1\n")?;
+    for _ in 0..150 {
+        input.push_str("# nothing\n")?;
+    }
+    input.push_str("banana\n")?;
+    let ran = run_on(alloc, "report", input.as_bytes())?;
+    assert_eq!(rt; ran.status, 3);
+    assert_eq!(rt;
+        ran.err.as_slice(),
+        b"armcaps: line 152: kind 4 unknown-line\n".as_slice()
+    );
+    Ok(())
+}
+
+/// An error stream without room changes no status.
+#[test]
+fn error_stream_without_room(rt: HostRuntime) -> Result<(), Fail> {
+    let alloc = rt.alloc();
+    let cases = [("banana", ONE_CORE, 2), ("report", "banana\n", 3)];
+    for (line, input, status) in cases {
+        let words = words(alloc, line)?;
+        let mut input = SureSource::new(input.as_bytes().to_vec(alloc)?, 7);
+        let mut out = MemSink::new(alloc, 16, 16, Vec::new(alloc))?;
+        let mut err = MemSink::new(alloc, 0, 16, Vec::new(alloc))?;
+        assert_eq!(rt; run(alloc, &words, &mut input, &mut out, &mut err), status);
+        assert_eq!(rt; err.bytes(), b"".as_slice());
+    }
+    Ok(())
+}
+
 /// A source whose third call fails, and a sink whose fifth call does.
 #[test]
 fn faults(rt: HostRuntime) -> Result<(), Fail> {

@@ -4,6 +4,7 @@ ghost use Rattle.std.specs.Prelude.{[], ◌≡◌, ◌<◌, ◌&&◌, map, slice
 ghost use Rattle.std.specs.List.{range_with_len};
 ghost use Rattle.armcaps_sanit.specs.Varying.{core_varies};
 ghost use Rattle.armcaps_top.specs.Report.{varies_any};
+ghost use Rattle.armcaps_text.specs.Cores.{zero_core};
 ghost use Rattle.armcaps_text.specs.Document.{reading_of};
 ghost use Rattle.armcaps_top.specs.Admission.{admitted_cores, is_admitted, role_of};
 
@@ -24,7 +25,7 @@ fn is_admitted_and_varies(boot: &CoreRegs, role: Role, core: &CoreRegs, register
 pub fn varies_somewhere(machine: &Machine, roles: &[Role], register: SysReg) -> bool
     requires boot { machine.now.boot < vec_len machine.now.cores }
     requires roles { roles.now ≡ map (role_of (reading_of machine.now [])) (range_with_len 0 (vec_len machine.now.cores)) }
-    ensures { result ≡ varies_any (slice_index_or machine.now.cores.items machine.now.boot []) (admitted_cores (reading_of machine.now [])) register }
+    ensures { result ≡ varies_any (slice_index_or machine.now.cores.items machine.now.boot zero_core) (admitted_cores (reading_of machine.now [])) register }
 {
     let boot = &machine.cores[machine.boot as usize];
     for (core, registers) in machine.cores.iter().enumerate() {

@@ -9,4 +9,4 @@ use Rattle.armcaps_top.proofs.admission.roles.Given as goal
 abbrev pub invariant-loop-step : goal.invariant-loop-step
 invariant-loop-step l =
     (vec_len l.roles ≡ vec_len l.machine.cores) ×
-    ((core : ℕ) → core < vec_len l.machine.cores → slice_index_or l.roles.items core Absent ≡ (if list_any (brings_up core) (take l.step-index l.machine.steps.items) then Early else Absent))
+    ((core : ℕ) → core < vec_len l.machine.cores → slice_index_or l.roles.items core Absent ≡ (if list_any (brings_up core) (take l.step-index l.step-items) then Early else Absent))

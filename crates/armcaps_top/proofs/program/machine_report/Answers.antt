@@ -1,5 +1,5 @@
 use Rattle.std.proofs.Common.{string_bytes}
-use Rattle.armcaps_top.proofs.Overrides.{report_under}
+use Rattle.armcaps_top.proofs.Agreeing.{report_under}
 use Rattle.armcaps_top.proofs.program.machine_report.Goals as goal
 
 pub returns-in-Ok : goal.returns-in-Ok

@@ -5,6 +5,6 @@ use Rattle.armcaps_top.specs.Report.{user_line}
 use Rattle.armcaps_top.proofs.report.push_user_words.Goals as goal
 
 pub loop-register-preserved : goal.loop-register-preserved
-loop-register-preserved c = λ overrides cores fit some is.
+loop-register-preserved c = λ overrides cores is.
     item_more (λ register. user_line register (user_word overrides cores register)) tracked c.loop-register.register-index _ _ _ _ c.loop-register-test.true
-    (c.loop-register.invariant overrides cores fit some is) (rw (c.user_word.ensures.stands overrides cores fit some is) at c.in_ok-push_user_word.ensures)
+    (c.loop-register.invariant overrides cores is) (rw (c.user_word.ensures.stands overrides cores is) at c.in_ok-push_user_word.ensures)
