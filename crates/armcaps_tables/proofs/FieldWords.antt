@@ -17,7 +17,7 @@ use Rattle.armcaps_tables.specs.Facts.{counts_from_zero, row_holds, rises}
 use Rattle.armcaps_tables.specs.Fields.{bits_in_place, value_fits, word_of, ValuesFit, IsOutside, IsMadeOf}
 use Rattle.armcaps_tables.proofs.Places.{both, first_of, rises_within, rise_of, hold_of, row_in_word}
 
-row_some : (row : Row) → row_holds row ≡ true → 1 ≤ row.width
+pub row_some : (row : Row) → row_holds row ≡ true → 1 ≤ row.width
 row_some row h =
     leb-true 1 row.width (first_of (nat_le 1 row.width) (nat_le row.width 32) (field_fits row.signed row.width row.safe)
     (not (counts_from_zero row.rule) || not row.signed) h).0
@@ -99,7 +99,7 @@ grown value first (row ∷ rows) end base word up hold fit low is =
       within = more.within;
     }
 
-zero_field : (shift width : ℕ) → unsigned_field shift width 0 ≡ 0
+pub zero_field : (shift width : ℕ) → unsigned_field shift width 0 ≡ 0
 zero_field shift width = ap (λ n. n % 2 ^ width) (zero-div (2 ^ shift)) ∙ zero-mod (2 ^ width)
 
 -- the word that fitting values make has them in its fields, and nothing else

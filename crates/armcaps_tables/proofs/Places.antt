@@ -1,8 +1,10 @@
 -- What the tests of a table say of the rows at its places.
-use Rattle.std.proofs.Common.{◌≡◌, ℕ, ◌+◌, ◌<◌, ◌≤◌, suc, zero, Bool, true, false, not, ◌&&◌, ◌||◌, IsTrue, nat_le, List, [], ◌∷◌, Option, Some, None, IfSome, slice_get, refl, sym, ◌∙◌, ap, subst, inl, inr, arith}
+use Rattle.std.proofs.Common.{◌≡◌, ℕ, ◌+◌, ◌<◌, ◌≤◌, suc, zero, Bool, true, false, not, ◌&&◌, ◌||◌, IsTrue, nat_le, List, [], ◌∷◌, Option, Some, None, IfSome, get_or, slice_get, refl, sym, ◌∙◌, ap, subst, inl, inr, arith}
 use Rattle.std.specs.List.{list_all, list_any}
 use Rattle.std.specs.Str.{bytes_eq}
 use Rattle.std.proofs.lemmas.Bool.{cases_lt, leb-true, false≢true}
+use Rattle.std.proofs.lemmas.List.Folds.{list_any_at}
+use Rattle.std.proofs.lemmas.Option.{get_or_from_slice_get, slice_get_within}
 use Rattle.std.proofs.lemmas.Slice.Eq.{bytes_eq-Decides}
 use Rattle.armcaps_bits.specs.Field.{IsRange, field_fits}
 use Rattle.armcaps_rule.specs.declared.rule.Rule.TheVariants.{HigherOrZero}
@@ -37,14 +39,17 @@ all_at test (y ∷ ys) zero x passes at =
 all_at test (y ∷ ys) (suc i) x passes at = all_at test ys i x (both (test y) (list_all test ys) passes).1 at
 
 -- no element passes a test that the list does not pass anywhere
-none_at : {X : Type 0} (test : X → Bool) (xs : List X) (i : ℕ) (x : X) → list_any test xs ≡ false
+pub none_at : {X : Type 0} (test : X → Bool) (xs : List X) (i : ℕ) (x : X) → list_any test xs ≡ false
     → slice_get xs i ≡ Some x → test x ≡ false
-none_at test [] i x fails at = cc
-none_at test (y ∷ ys) zero x fails at =
-    let same : y ≡ x = cc in
-    let Fails : _ → Type 0 = λ z. test z ≡ false in
-    subst Fails same (neither (test y) (list_any test ys) fails).0
-none_at test (y ∷ ys) (suc i) x fails at = none_at test ys i x (neither (test y) (list_any test ys) fails).1 at
+none_at test xs i x fails at = by_test (test x) refl
+  where
+    by_test : (passes : Bool) → test x ≡ passes → test x ≡ false
+    by_test false is = is
+    by_test true is =
+        let here : get_or xs i x ≡ x = get_or_from_slice_get xs i x x at in
+        let found : list_any test xs ≡ true =
+        list_any_at test xs i x (slice_get_within xs i x at) (ap test here ∙ is) in
+        absurd (false≢true (sym fails ∙ found))
 
 -- rows that rise from an end leave it within the word
 pub rises_within : (end : ℕ) (rows : List Row) → rises end rows ≡ true → end ≤ 64

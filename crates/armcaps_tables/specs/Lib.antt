@@ -2,6 +2,7 @@
 pub mod Core
 pub mod Facts
 pub mod Fields
+pub mod Masks
 pub mod Merging
 pub mod Overriding
 pub mod Row

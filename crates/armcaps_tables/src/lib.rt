@@ -5,6 +5,8 @@ mod core_regs;
 mod counts;
 mod field_row;
 mod lines;
+mod masks;
+mod merge;
 mod overrides;
 mod rows;
 mod table;
@@ -12,6 +14,8 @@ mod table;
 pub use core_regs::CoreRegs;
 pub use counts::count;
 pub use field_row::FieldRow;
+pub use masks::{fields_mask, hidden_safe, strict_mask, visible_mask};
+pub use merge::merge_words;
 pub use overrides::Overrides;
 pub use table::{field, find, row, tables_hold};
 
