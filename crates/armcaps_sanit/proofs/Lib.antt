@@ -3,6 +3,5 @@ pub mod SystemFields
 pub mod SystemWords
 pub mod UserWords
 pub mod OverrideNotes
-pub mod Searching
 pub mod WordsByField
 pub mod ExampleWords

@@ -9,9 +9,9 @@ ghost use Rattle.armcaps_tables.specs.Fields.{field_in, HasFieldsAlone};
 ghost use Rattle.armcaps_sanit.specs.System.{IsSystemOf, merged_words, system_field, system_word};
 ghost use Rattle.armcaps_sanit.specs.Users.{shown_word, user_word};
 
-use crate::register_word::{first_words, merged_words, shown_word};
+use crate::register_word::{first_words, merged_words};
 use armcaps_enc::SysReg;
-use armcaps_tables::{CoreRegs, Overrides, field};
+use armcaps_tables::{CoreRegs, Overrides, field, hidden_safe, visible_mask};
 use std::marker::Model;
 
 /// For each register the word of the values that all admitted cores keep in common, by the registers' places. It holds
@@ -62,7 +62,8 @@ impl System {
         self.words = merged_words(&self.words, core);
     }
 
-    /// A register's word: the fields at their places, and 0 in all other bits. So it is 0 for a register without fields.
+    /// A register's word: the fields at their places, and 0 in all other bits. So it is 0 for a register without
+    /// fields.
     pub fn word(&self, reg: SysReg) -> u64
         ensures word { result ≡ word_at self.now reg }
         ensures stands { (overrides : FieldOverrides) (cores : List Core) → IsSystemOf overrides cores self.now
@@ -81,7 +82,7 @@ impl System {
             → result ≡ user_word overrides cores reg }
         ensures others { HasFieldsAlone (rows_of reg) result }
     {
-        shown_word(reg, self.word(reg))
+        self.word(reg) & visible_mask(reg) | hidden_safe(reg)
     }
 
     /// A field's value. `index` is its place in the register's table.

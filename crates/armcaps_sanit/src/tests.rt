@@ -1,8 +1,40 @@
 //! Words of some cores, and what users see of them.
 
+ghost use Rattle.std.specs.Prelude.{◌≡◌};
+ghost use Rattle.armcaps_rule.specs.Rule.{merged};
+ghost use Rattle.armcaps_tables.specs.Fields.{field_in};
+ghost use Rattle.armcaps_tables.specs.Merging.{merged_word};
+ghost use Rattle.armcaps_tables.specs.RowOf.{row_of};
+
 use super::*;
 use armcaps_enc::SysReg;
-use armcaps_tables::{CoreRegs, Overrides};
+use armcaps_rule::merge;
+use armcaps_tables::{CoreRegs, FieldRow, Overrides, count, field};
+
+// The definition of an admission as a plain program: a register's word merged field by field.
+fn merged_by_field(reg: SysReg, current: u64, word: u64) -> u64
+    ensures { result ≡ merged_word reg current word }
+{
+    let mut merged = 0;
+    for index in 0..count(reg) {
+        let row = field(reg, index);
+        merged = row.span.put(merged, merged_field(&row, current, word));
+    }
+    merged
+}
+
+// One field's value after one more core.
+fn merged_field(row: &FieldRow, current: u64, word: u64) -> i64
+    ensures { result
+        ≡ merged row.now.rule row.now.safe (field_in (row_of row.now) current) (field_in (row_of row.now) word) }
+{
+    merge(
+        row.rule,
+        row.safe,
+        row.span.value(current),
+        row.span.value(word),
+    )
+}
 
 fn core(reg: SysReg, word: u64) -> CoreRegs {
     let mut core = CoreRegs::zero();
@@ -56,6 +88,25 @@ fn words_over_cores(rt: HostRuntime) {
         0x84448004
     );
     assert_eq!(rt; word_over(&none, SysReg::MidrEl1, 0x410fd034, &[]), 0);
+}
+
+// Each admission of worked words gives what the merge field by field gives.
+#[test]
+fn words_merged_by_field(rt: HostRuntime) {
+    let none = Overrides::none();
+    let words = [
+        (SysReg::IdAa64Isar0El1, 0x100010211120, 0x11120, 0x11120),
+        (SysReg::IdAa64Pfr0El1, 0, 0xf0000, 0xf0000),
+        (SysReg::CtrEl0, 0x84448004, 0x80448004, 0x80448004),
+        (SysReg::CtrEl0, 0x84448004, 0x85448004, 0x85448004),
+        (SysReg::CtrEl0, 0x8444c004, 0x84444004, 0x84448004),
+        (SysReg::IdAa64Mmfr1El1, 0x1000000, 0x2000000, 0x2000000),
+        (SysReg::MidrEl1, 0x410fd034, 0x410fd092, 0),
+    ];
+    for (reg, boot, word, merged) in words {
+        assert_eq!(rt; word_over(&none, reg, boot, &[word]), merged);
+        assert_eq!(rt; merged_by_field(reg, boot, word), merged);
+    }
 }
 
 // An override of the crypto field of ISAR0, and what it comes to on one core.

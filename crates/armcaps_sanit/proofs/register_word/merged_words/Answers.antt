@@ -10,9 +10,9 @@ loop-place-init c = filled_none _ _ refl
 
 pub loop-place-preserved : goal.loop-place-preserved
 loop-place-preserved c =
-    let here = rw (c.get.ensures.word, c.place.ensures.value) at c.merged_word.ensures in
+    let here = rw (c.get.ensures.word, c.place.ensures.value) at c.merge_words.ensures in
     filled_more (λ reg. merged_word reg (word_at c.args.words.now reg) (core_word c.args.core.now reg)) c.loop-place.place
-    c.loop-place.merged c.merged_word.result c.loop-place-test.true c.loop-place.invariant here
+    c.loop-place.merged c.merge_words.result c.loop-place-test.true c.loop-place.invariant here
 
 pub returns : goal.returns
 unfolding merged_words

@@ -2,7 +2,7 @@ use Rattle.armcaps_tables.specs.Rows.{rows_of}
 use Rattle.armcaps_rule.specs.Rule.{merged}
 use Rattle.armcaps_tables.specs.Fields.{field_in}
 use Rattle.armcaps_tables.proofs.FieldWords.{SoFar}
-use Rattle.armcaps_sanit.proofs.register_word.merged_word.Given as goal
+use Rattle.armcaps_sanit.proofs.tests.merged_by_field.Given as goal
 
 -- the word has the merged values of the fields passed
 abbrev pub invariant-loop-index : goal.invariant-loop-index

@@ -8,7 +8,7 @@ use Rattle.armcaps_tables.specs.Rows.{rows_of}
 use Rattle.armcaps_tables.proofs.FieldWords.{so_far_all}
 use Rattle.armcaps_sanit.proofs.SystemWords.{merged_fits}
 use Rattle.armcaps_sanit.proofs.WordsByField.{held_fits, so_far_put}
-use Rattle.armcaps_sanit.proofs.register_word.merged_word.Goals as goal
+use Rattle.armcaps_sanit.proofs.tests.merged_by_field.Goals as goal
 
 pub put-merged-requires : goal.put-merged-requires
 put-merged-requires c =
