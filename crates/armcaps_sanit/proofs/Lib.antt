@@ -5,3 +5,4 @@ pub mod UserWords
 pub mod OverrideNotes
 pub mod WordsByField
 pub mod ExampleWords
+pub mod Reaching

@@ -3,3 +3,4 @@ pub mod System
 pub mod Users
 pub mod Varying
 pub mod Notes
+pub mod Reaching
