@@ -1,0 +1,5 @@
+-- The lemmas of this crate.
+pub mod Listing
+pub mod Sums
+pub mod Sets
+pub mod Shown
