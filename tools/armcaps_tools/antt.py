@@ -1,7 +1,9 @@
-"""Reads the tables in the definitions of the proved crates (crates/*/specs/*.antt), so that no tool keeps a table of its own.
+"""Reads the tables in the definitions of the proved crates (crates/*/specs/*.antt), so that no tool keeps a table of
+its own.
 
-It knows as much of the language as tables are written in: equations by cases, application, records and their updates, lists,
-numbers, strings, `codes`, `pos` and `negsuc`, and a row's place by its name. A definition is read only when its value is asked for.
+It knows as much of the language as tables are written in: equations by cases, application, records and their
+updates, lists, numbers, strings, `codes`, `pos` and `negsuc`, and a row's place by its name. A definition is read
+only when its value is asked for.
 """
 
 import pathlib

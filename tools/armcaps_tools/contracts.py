@@ -60,8 +60,8 @@ def words(text):
 
 
 def definitions_of(path, crate):
-    """The definitions of one file, in their order. One without a comment of its own shares that of the one before it, and the
-    first one that of the file."""
+    """The definitions of one file, in their order. One without a comment of its own shares that of the one before
+    it, and the first one that of the file."""
     text = path.read_text(encoding="utf-8")
     head = re.match(r"(?:--[^\n]*\n)*", text).group()
     found, comment, last = [], [], " ".join(line.lstrip("- ").strip() for line in head.splitlines())
@@ -119,7 +119,9 @@ def clauses_at(text, place):
 
 
 def calls_of(text, crate, public, imports):
-    """The public calls of a file: functions and methods that are `pub`, methods of public traits, and of public types' traits."""
+    """The public calls of a file: functions and methods that are `pub`, methods of public traits, and of public types'
+    traits.
+    """
     found, place = [], 0
     pattern = re.compile(r"\b(?:(impl)\b([^{;]*)\{|(pub )?trait (\w+)[^{]*\{|(pub )?(?:const )?fn (\w+))")
     while True:
@@ -174,8 +176,14 @@ def public_calls(top, crate):
     else:
         lib = without_comments((source / "lib.rt").read_text(encoding="utf-8"))
         whole = set(re.findall(r"pub mod (\w+)", lib))
-        names = {name for group in re.findall(r"pub use \w+(?:::\w+)*::(\{[^}]*\}|\w+)", lib) for name in re.findall(r"\w+", group)}
-        texts = [(path, every_public if path.stem in whole else names.__contains__) for path in sorted(source.rglob("*.rt"))]
+        names = {
+            name
+            for group in re.findall(r"pub use \w+(?:::\w+)*::(\{[^}]*\}|\w+)", lib)
+            for name in re.findall(r"\w+", group)
+        }
+        texts = [
+            (path, every_public if path.stem in whole else names.__contains__) for path in sorted(source.rglob("*.rt"))
+        ]
     found = []
     for path, public in texts:
         if path.stem != "tests":

@@ -76,7 +76,10 @@ def table(name):
 @functools.lru_cache(maxsize=None)
 def registers():
     numbers = ("op0", "op1", "crn", "crm", "op2")
-    return [Register(**{name: int(text) if name in numbers else text for name, text in row.items()}) for row in table("registers")]
+    return [
+        Register(**{name: int(text) if name in numbers else text for name, text in row.items()})
+        for row in table("registers")
+    ]
 
 
 @functools.lru_cache(maxsize=None)

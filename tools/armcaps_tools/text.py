@@ -1,4 +1,5 @@
-"""Machine texts and reports, as the tools read them. That a text is right is armcaps' to say: here only its facts are taken."""
+"""Machine texts and reports, as the tools read them. That a text is right is armcaps' to say: here only its facts are
+taken."""
 
 import dataclasses
 import pathlib

@@ -1,4 +1,5 @@
-"""What the tools of armcaps do with dumps, reports and command lines. Run by tools/check, which names the program by $ARMCAPS."""
+"""What the tools of armcaps do with dumps, reports and command lines. Run by tools/check, which names the program by
+$ARMCAPS."""
 
 import os
 import pathlib
@@ -42,9 +43,16 @@ class Dumps(unittest.TestCase):
             bare = re.sub(rb"(?<![\w.])0x([0-9a-f]{3,16})(?![\w])", rb"\1", lines)
             with self.subTest(dump=dump.name):
                 self.assertEqual(report(tool("dump2text", dump).stdout), self.expected)
-                self.assertEqual(report(tool("dump2text", "-", given=lines.replace(b"\n", b"\r\n")).stdout), self.expected)
-                self.assertEqual(report(tool("dump2text", "--hex", "-", given=lines.upper().replace(b"0X", b"0x")).stdout), self.expected)
-                self.assertEqual(report(tool("dump2text", "--hex", "-", given=bare.replace(b"\n", b"\r\n")).stdout), self.expected)
+                self.assertEqual(
+                    report(tool("dump2text", "-", given=lines.replace(b"\n", b"\r\n")).stdout), self.expected
+                )
+                self.assertEqual(
+                    report(tool("dump2text", "--hex", "-", given=lines.upper().replace(b"0X", b"0x")).stdout),
+                    self.expected,
+                )
+                self.assertEqual(
+                    report(tool("dump2text", "--hex", "-", given=bare.replace(b"\n", b"\r\n")).stdout), self.expected
+                )
 
     def test_bare_numbers_are_refused(self):
         for dump in DUMPS:
@@ -56,7 +64,9 @@ class Dumps(unittest.TestCase):
 
     def test_a_missing_register_is_refused(self):
         for name in profile.tracked():
-            lines = [line for line in DUMPS[0].read_bytes().splitlines(True) if name.encode() not in line.lower().split()]
+            lines = [
+                line for line in DUMPS[0].read_bytes().splitlines(True) if name.encode() not in line.lower().split()
+            ]
             with self.subTest(register=name):
                 answer = tool("dump2text", "-", given=b"".join(lines))
                 self.assertEqual((answer.returncode, answer.stdout), (1, b""))
@@ -90,8 +100,13 @@ class Lines(unittest.TestCase):
 
     def test_spellings(self):
         for line in [
-            "SYS_ID_AA64PFR0_EL1 0x22", "id_aa64pfr0=0x22", "S3_0_C0_C4_0: 0x0000_0022", "s3_0_c0_c4_0\t0x22\t34",
-            "ID_AA64PFR0_EL1 = 0x22 # a note", "(9) ID_AA64PFR0_EL1 (/64): 0x0000000000000022", "ID_AA64PFR0_EL1_RESERVED 0x22 34",
+            "SYS_ID_AA64PFR0_EL1 0x22",
+            "id_aa64pfr0=0x22",
+            "S3_0_C0_C4_0: 0x0000_0022",
+            "s3_0_c0_c4_0\t0x22\t34",
+            "ID_AA64PFR0_EL1 = 0x22 # a note",
+            "(9) ID_AA64PFR0_EL1 (/64): 0x0000000000000022",
+            "ID_AA64PFR0_EL1_RESERVED 0x22 34",
             "<6>[    1.234567] cpu3: id_aa64pfr0_el1=0x22, id_aa64pfr1_el1=0x0",
             "/sys/devices/system/cpu/cpu0/regs/identification/id_aa64pfr0_el1:0x0000000000000022",
         ]:
@@ -115,7 +130,9 @@ class Lines(unittest.TestCase):
         self.assertIn("are not 136", self.words("40200000: 00000000410fd034 0000000080000000  4..A"))
         self.assertIn("has a heading, and no register", self.words("core 0\nCTR_EL0 0x1\ncore 1\ncore 2\nCTR_EL0 0x1"))
         self.assertIn("before the first core's heading", self.words("CTR_EL0 0x1\ncore 0\nCTR_EL0 0x1"))
-        sanity = "CPU features: SANITY CHECK: Unexpected variation in SYS_CTR_EL0. Boot CPU: 0x84448004, CPU1: 0x8444c004"
+        sanity = (
+            "CPU features: SANITY CHECK: Unexpected variation in SYS_CTR_EL0. Boot CPU: 0x84448004, CPU1: 0x8444c004"
+        )
         self.assertIn("has no register", self.words(sanity))
 
     def test_a_dump_of_user_space_is_refused(self):
@@ -133,10 +150,25 @@ class Lines(unittest.TestCase):
 
     def test_steps(self):
         lines = "".join(f"core {core}\nCTR_EL0 0x1\n" for core in range(4))
-        answer = tool("dump2text", "--missing-zero", "--boot", "1", "--late", "0", "--absent", "3", "-", given=lines.encode())
-        self.assertEqual(answer.stdout.split(b"\n")[-6:], [b"boot 1", b"online 2", b"finalise", b"online 0", b"end", b""])
-        answer = tool("dump2text", "--missing-zero", "--late", "1", "--late", "2,3", "-", given=lines.replace("core 3", "core 7").encode())
-        self.assertEqual(answer.stdout.split(b"\n")[-7:-1], [b"boot 0", b"finalise", b"online 1", b"online 2", b"online 3", b"end"])
+        answer = tool(
+            "dump2text", "--missing-zero", "--boot", "1", "--late", "0", "--absent", "3", "-", given=lines.encode()
+        )
+        self.assertEqual(
+            answer.stdout.split(b"\n")[-6:], [b"boot 1", b"online 2", b"finalise", b"online 0", b"end", b""]
+        )
+        answer = tool(
+            "dump2text",
+            "--missing-zero",
+            "--late",
+            "1",
+            "--late",
+            "2,3",
+            "-",
+            given=lines.replace("core 3", "core 7").encode(),
+        )
+        self.assertEqual(
+            answer.stdout.split(b"\n")[-7:-1], [b"boot 0", b"finalise", b"online 1", b"online 2", b"online 3", b"end"]
+        )
         self.assertIn(b"core 3 is standard input, core 7", answer.stderr)
 
 
@@ -149,8 +181,12 @@ class Explained(unittest.TestCase):
     def explained(self, state, given=TEXT, more=""):
         """What is told of a text whose core 1 has a state."""
         words = [f"{group} {name} 0x{0:016x}" for group in ("reg", "user") for name in profile.tracked()]
-        words = "\n".join(words).replace(f"reg id_aa64isar0_el1 0x{0:016x}", f"reg id_aa64isar0_el1 0x{0x10211120:016x}")
-        lines = f"armcaps report 1\ncore 0 boot\ncore 1 {state}\n{words}\n{more}hwcap 0x0\nhwcap2 0x0\nflags cpuid\nend\n"
+        words = "\n".join(words).replace(
+            f"reg id_aa64isar0_el1 0x{0:016x}", f"reg id_aa64isar0_el1 0x{0x10211120:016x}"
+        )
+        lines = (
+            f"armcaps report 1\ncore 0 boot\ncore 1 {state}\n{words}\n{more}hwcap 0x0\nhwcap2 0x0\nflags cpuid\nend\n"
+        )
         with tempfile.NamedTemporaryFile("w", suffix=".txt") as file:
             file.write(given)
             file.flush()
@@ -160,24 +196,33 @@ class Explained(unittest.TestCase):
         return [re.split(r" {2,}", line) for line in self.explained(*arguments, **named).stdout.decode().splitlines()]
 
     def test_fields(self):
-        self.assertIn(["id_aa64isar0.sha1", "11:8", "Lower", "0: 1; 1: 0", "1", "0", "cores differ, limited"], self.rows("late"))
+        self.assertIn(
+            ["id_aa64isar0.sha1", "11:8", "Lower", "0: 1; 1: 0", "1", "0", "cores differ, limited"], self.rows("late")
+        )
         self.assertNotIn("id_aa64isar0.sha1", [row[0] for row in self.rows("absent")])
 
     def test_the_report_of_another_text(self):
         self.assertEqual(self.explained("early", given=self.TEXT.replace("boot 0", "boot 1")).returncode, 1)
         self.assertEqual(self.explained("early", given=self.TEXT.replace("boot 0", "core 2\nboot 0")).returncode, 1)
 
-    @unittest.skipUnless(profile.tests("capabilities") and profile.tests("hwcaps"), "no tables of capabilities and hwcaps")
+    @unittest.skipUnless(
+        profile.tests("capabilities") and profile.tests("hwcaps"), "no tables of capabilities and hwcaps"
+    )
     def test_parked_cores(self):
         rows = self.rows("parked cap 7 HAS_LSE_ATOMICS")
         self.assertIn(["core 1 is parked: HAS_LSE_ATOMICS asks id_aa64isar0.atomic >= 2"], rows)
         self.assertIn(["id_aa64isar0.atomic", "23:20", "Lower", "0: 2; 1: 0", "2", "0"], rows)
         self.assertIn(["core 1 is parked: sha1 asks id_aa64isar0.sha1 >= 1"], self.rows("parked hwcap sha1"))
-        self.assertIn(["id_aa64isar0.sha1", "11:8", "Lower", "0: 1; 1: 0"], [row[:4] for row in self.rows("parked hwcap sha1")])
+        self.assertIn(
+            ["id_aa64isar0.sha1", "11:8", "Lower", "0: 1; 1: 0"], [row[:4] for row in self.rows("parked hwcap sha1")]
+        )
         erratum = self.rows("parked cap 43 WORKAROUND_843419")[-1][0]
         self.assertIn("midr_el1 0x410fd034, revidr_el1 0x0", erratum)
         cache = self.TEXT.replace("core 1\n", "ctr_el0 0x84448004\ncore 1\nctr_el0 0x84438004\n")
-        self.assertIn(["ctr.dminline", "19:16", "Lower", "0: 4; 1: 3", "0", "0"], self.rows("parked cap 42 MISMATCHED_CACHE_TYPE", given=cache))
+        self.assertIn(
+            ["ctr.dminline", "19:16", "Lower", "0: 4; 1: 3", "0", "0"],
+            self.rows("parked cap 42 MISMATCHED_CACHE_TYPE", given=cache),
+        )
 
     def test_vector_lengths(self):
         given = self.TEXT.replace("armcaps 1", "armcaps 2").replace("core 1\n", "sve_vl 0x3\ncore 1\nsve_vl 0x1\n")
@@ -193,12 +238,36 @@ class CommandLines(unittest.TestCase):
 
     def word(self):
         draw = self.random.choice
-        registers = [register.short for register in profile.registers()] + ["id_aa64pfr2", "ID_AA64PFR0", "id_aa64pfr0_el1"]
+        registers = [register.short for register in profile.registers()] + [
+            "id_aa64pfr2",
+            "ID_AA64PFR0",
+            "id_aa64pfr0_el1",
+        ]
         if self.random.random() < 0.2:
-            return draw([*profile.aliases(), "arm64.nosve ", "arm64.nosv", "arm64.nosve=1", "quiet", "console=ttyAMA0,115200"])
+            return draw(
+                [*profile.aliases(), "arm64.nosve ", "arm64.nosv", "arm64.nosve=1", "quiet", "console=ttyAMA0,115200"]
+            )
         register = draw(registers)
         names = [field.name for field in profile.fields_of(f"{register}_el1")] or ["sve", "l1ip"]
-        value = draw(["0", "1", "2", "0x0", "0xF", "0X1", "16", "0x10", "", "-1", "00", "18446744073709551616", "1\r", "0x", "1g"])
+        value = draw(
+            [
+                "0",
+                "1",
+                "2",
+                "0x0",
+                "0xF",
+                "0X1",
+                "16",
+                "0x10",
+                "",
+                "-1",
+                "00",
+                "18446744073709551616",
+                "1\r",
+                "0x",
+                "1g",
+            ]
+        )
         return f"{register}.{draw([*names, 'sev', ''])}{draw(['=', '=', '=', ''])}{value}"
 
     def test_fields_are_those_that_the_program_notes(self):
@@ -222,10 +291,20 @@ class CommandLines(unittest.TestCase):
             self.assertEqual([row for row in said if row.startswith("set ")], sets)
 
     def test_hints(self):
-        for word in ["arm64.nosvee", "id_aa64pfr0_el1.sve=0", "ID_AA64PFR0.sve=0", '"arm64.nosve"', "arm64.nosve\r", "ctr.l1ip=0", "-- arm64.nosve"]:
+        for word in [
+            "arm64.nosvee",
+            "id_aa64pfr0_el1.sve=0",
+            "ID_AA64PFR0.sve=0",
+            '"arm64.nosve"',
+            "arm64.nosve\r",
+            "ctr.l1ip=0",
+            "-- arm64.nosve",
+        ]:
             with self.subTest(word=word):
                 self.assertEqual(tool("cmdline-lint", word).returncode, 1)
-        self.assertEqual(tool("cmdline-lint", "quiet arm64.nosve root=/dev/vda2 id_aa64pfr0.fp=15 -- init").returncode, 0)
+        self.assertEqual(
+            tool("cmdline-lint", "quiet arm64.nosve root=/dev/vda2 id_aa64pfr0.fp=15 -- init").returncode, 0
+        )
 
 
 class Pages(unittest.TestCase):
