@@ -11,8 +11,7 @@ use Rattle.armcaps_tables.specs.Core.{Core, core_word}
 use Rattle.armcaps_errata.specs.Has.{has_erratum}
 use Rattle.armcaps_sanit.specs.Reaching.{field_passes, reaches, word_values}
 use Rattle.armcaps_tables.specs.Overriding.{FieldOverrides}
-use Rattle.armcaps_sanit.specs.System.{local_field}
-use Rattle.armcaps_sanit.specs.System.{system_field}
+use Rattle.armcaps_sanit.specs.System.{local_field, system_field}
 use Rattle.armcaps_sanit.specs.Varying.{word_varies}
 use Rattle.armcaps_caps.specs.declared.cap_row.Test.{Test}
 use Rattle.armcaps_caps.specs.declared.cap_row.Test.TheVariants.{Always, AtLeast, SameAsBoot, Erratum, CacheType}

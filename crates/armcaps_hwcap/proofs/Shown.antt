@@ -12,8 +12,7 @@ use Rattle.armcaps_tables.specs.Row.{Row as FieldRow}
 use Rattle.armcaps_tables.specs.Rows.{rows_of}
 use Rattle.armcaps_sanit.specs.Reaching.{row_keeps, word_values}
 use Rattle.armcaps_tables.specs.Overriding.{FieldOverrides}
-use Rattle.armcaps_sanit.specs.System.{local_field}
-use Rattle.armcaps_sanit.specs.System.{system_field, IsSystemOf}
+use Rattle.armcaps_sanit.specs.System.{local_field, system_field, IsSystemOf}
 use Rattle.armcaps_sanit.proofs.Reaching.{field_passes-same, local_keeps}
 use Rattle.armcaps_sanit.proofs.SystemWords.{system_field_at}
 use Rattle.armcaps_hwcap.specs.declared.hw_set.HwSet.{HwSet}

@@ -8,8 +8,7 @@ use Rattle.armcaps_tables.specs.Row.{Row as FieldRow}
 use Rattle.armcaps_tables.specs.Core.{Core}
 use Rattle.armcaps_sanit.specs.Reaching.{field_passes, word_values}
 use Rattle.armcaps_tables.specs.Overriding.{FieldOverrides}
-use Rattle.armcaps_sanit.specs.System.{local_field}
-use Rattle.armcaps_sanit.specs.System.{system_field}
+use Rattle.armcaps_sanit.specs.System.{local_field, system_field}
 use Rattle.armcaps_hwcap.specs.declared.row.HwField.{HwField}
 use Rattle.armcaps_hwcap.specs.Row.{Row}
 use Rattle.armcaps_hwcap.specs.Rows.{hwcap_rows}
