@@ -3,8 +3,8 @@ use Rattle.std.proofs.Common.{◌≡◌, ℕ, List, [], ◌∷◌, ◌++◌, Som
 use Rattle.std.specs.List.{flat_map}
 use Rattle.armcaps_tables.specs.Overriding.{FieldOverrides}
 use Rattle.armcaps_cmdline.specs.Overrides.{command_line_overrides}
-use Rattle.armcaps_text.specs.Document.{reading_of}
-use Rattle.armcaps_text.specs.declared.machine.Machine.{Machine}
+use Rattle.armcaps_early_text.specs.Document.{reading_of}
+use Rattle.armcaps_early_text.specs.declared.machine.Machine.{Machine}
 use Rattle.armcaps_top.specs.Document.{IsMachineOf}
 use Rattle.armcaps_top.specs.Report.{report_of}
 use Rattle.armcaps_top.specs.Run.{output_of}

@@ -13,9 +13,9 @@ use Rattle.armcaps_tables.specs.Fields.{field_in}
 use Rattle.armcaps_tables.specs.Overriding.{FieldOverrides, override_of}
 use Rattle.armcaps_tables.specs.Row.{Row}
 use Rattle.armcaps_sanit.specs.System.{field_values, system_field}
-use Rattle.armcaps_text.specs.Cores.{zero_core}
-use Rattle.armcaps_text.specs.Document as text
-use Rattle.armcaps_text.specs.Document.{Outcome, Reading, outcome}
+use Rattle.armcaps_early_text.specs.Cores.{zero_core}
+use Rattle.armcaps_early_text.specs.Document as text
+use Rattle.armcaps_early_text.specs.Document.{Outcome, Reading, outcome}
 use Rattle.armcaps_top.specs.Admission.{admitted_cores, is_admitted, role_of}
 use Rattle.armcaps_top.specs.Document.{document, whole_reading}
 use Rattle.armcaps_top.proofs.Admitted.{chosen, split_at}

@@ -8,9 +8,9 @@ use Rattle.armcaps_sanit.specs.System.{IsSystemOf, system_word}
 use Rattle.armcaps_sanit.specs.Users.{user_word}
 use Rattle.armcaps_sanit.proofs.SystemWords.{system_word_at}
 use Rattle.armcaps_tables.specs.Overriding.{FieldOverrides}
-use Rattle.armcaps_text.specs.Cores.{zero_core}
+use Rattle.armcaps_early_text.specs.Cores.{zero_core}
 use Rattle.armcaps_top.specs.Report.{varies_any}
-use Rattle.armcaps_text.specs.Document.{Reading}
+use Rattle.armcaps_early_text.specs.Document.{Reading}
 use Rattle.armcaps_top.specs.Admission.{admitted_cores, role_of}
 use Rattle.armcaps_top.specs.Report.{core_line, note_lines, register_line, report_of, user_line, varies_line}
 use Rattle.armcaps_top.proofs.Agreeing.{flat_map-same}

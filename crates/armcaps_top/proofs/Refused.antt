@@ -2,8 +2,8 @@
 use Rattle.std.proofs.Common.{◌≡◌, ◌≢◌, ℕ, ◌<◌, ◌≤◌, List, length, Option, None, Some, refl, ◌∙◌, ap, arith}
 use Rattle.std.specs.Prelude.{IfSome}
 use Rattle.std.proofs.lemmas.Bool.Decides.{nat_tests}
-use Rattle.armcaps_text.specs.Document as text
-use Rattle.armcaps_text.specs.Document.{Reading, Outcome, outcome}
+use Rattle.armcaps_early_text.specs.Document as text
+use Rattle.armcaps_early_text.specs.Document.{Reading, Outcome, outcome}
 use Rattle.armcaps_top.specs.Document.{document, whole_reading}
 use Rattle.armcaps_top.specs.Run.{IsRefused}
 use Rattle.armcaps_io.specs.Streams.{GivesAll}

@@ -4,7 +4,7 @@ use Rattle.std.specs.Prelude.{if◌then◌else◌}
 use Rattle.std.specs.List.{list_any, range_with_len}
 use Rattle.std.proofs.lemmas.List.FromFn.{fill_by_all, length-map-range_with_len}
 use Rattle.std.proofs.lemmas.Grind.{get_or-set_at}
-use Rattle.armcaps_text.specs.Document.{Reading}
+use Rattle.armcaps_early_text.specs.Document.{Reading}
 use Rattle.armcaps_top.specs.Admission.{brings_up, early_steps, role_of}
 use Rattle.armcaps_top.specs.declared.admission.Role.{Role}
 use Rattle.armcaps_top.specs.declared.admission.Role.TheVariants.{Boot, Early, Absent}

@@ -9,8 +9,8 @@ use Rattle.armcaps_enc.specs.declared.register.SysReg.{SysReg}
 use Rattle.armcaps_tables.specs.Core.{Core}
 use Rattle.armcaps_sanit.specs.Varying.{core_varies}
 use Rattle.armcaps_top.specs.Report.{varies_any}
-use Rattle.armcaps_text.specs.Cores.{zero_core}
-use Rattle.armcaps_text.specs.Document.{Reading}
+use Rattle.armcaps_early_text.specs.Cores.{zero_core}
+use Rattle.armcaps_early_text.specs.Document.{Reading}
 use Rattle.armcaps_top.specs.Admission.{admitted_cores, cores_where, is_admitted, role_of}
 use Rattle.armcaps_top.proofs.Admitted.{chosen, split_at}
 

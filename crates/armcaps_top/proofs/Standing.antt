@@ -5,7 +5,7 @@ use Rattle.std.proofs.lemmas.Bool.Decides.{nat_tests}
 use Rattle.armcaps_tables.specs.Core.{Core}
 use Rattle.armcaps_tables.specs.Overriding.{FieldOverrides}
 use Rattle.armcaps_sanit.specs.System.{IsSystemOf}
-use Rattle.armcaps_text.specs.Document.{Reading}
+use Rattle.armcaps_early_text.specs.Document.{Reading}
 use Rattle.armcaps_top.specs.Admission.{role_of, is_admitted, cores_where, admitted_cores}
 use Rattle.armcaps_top.specs.declared.admission.Role.{Role}
 use Rattle.armcaps_top.specs.declared.admission.Role.TheVariants.{Boot, Early, Absent}

@@ -3,9 +3,9 @@
 use Rattle.std.specs.Prelude.{ℕ, ◌==◌, Bool, true, false, List, length, slice_get, None, if◌then◌else◌}
 use Rattle.std.specs.List.{before_first, filter_map, list_any, range_with_len}
 use Rattle.armcaps_tables.specs.Core.{Core}
-use Rattle.armcaps_text.specs.Document.{Reading}
-use Rattle.armcaps_text.specs.declared.machine.StepLine.{StepLine}
-use Rattle.armcaps_text.specs.declared.machine.StepLine.TheVariants.{Online, Finalise}
+use Rattle.armcaps_early_text.specs.Document.{Reading}
+use Rattle.armcaps_early_text.specs.declared.machine.StepLine.{StepLine}
+use Rattle.armcaps_early_text.specs.declared.machine.StepLine.TheVariants.{Online, Finalise}
 use Rattle.armcaps_top.specs.declared.admission.Role.{Role}
 use Rattle.armcaps_top.specs.declared.admission.Role.TheVariants.{Boot, Early, Absent}
 

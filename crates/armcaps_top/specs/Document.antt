@@ -1,8 +1,8 @@
 -- Which inputs are documents. The format is this project's own.
 use Rattle.std.specs.Prelude.{◌≡◌, ℕ, ◌==◌, List, length, Option, None, Some, if◌then◌else◌}
 use Rattle.armcaps_cmdline.specs.Overrides.{command_line_overrides}
-use Rattle.armcaps_text.specs.Document.{Reading, Outcome, Reads, Refuses, outcome, reading_of}
-use Rattle.armcaps_text.specs.declared.machine.Machine.{Machine}
+use Rattle.armcaps_early_text.specs.Document.{Reading, Outcome, Reads, Refuses, outcome, reading_of}
+use Rattle.armcaps_early_text.specs.declared.machine.Machine.{Machine}
 
 -- the reading of a text, where the input of this many bytes ends with the text's last line
 abbrev pub whole_reading : Outcome → ℕ → Option Reading

@@ -1,10 +1,10 @@
 -- Why an input is no document, and how that is said. The limits and texts are this project's own.
 use Rattle.std.specs.Prelude.{◌≡◌, ℕ, ◌+◌, ◌<◌, ◌≤◌, ◌++◌, List, codes, length}
 use Rattle.std.specs.Fmt.{decimal}
-use Rattle.armcaps_text.specs.Document.{Reading, Reads, outcome}
-use Rattle.armcaps_text.specs.Document as text
-use Rattle.armcaps_text.specs.Refusal.{refusal_text}
-use Rattle.armcaps_text.specs.declared.kind.TextRefused.TheVariants as TextRefused
+use Rattle.armcaps_early_text.specs.Document.{Reading, Reads, outcome}
+use Rattle.armcaps_early_text.specs.Document as text
+use Rattle.armcaps_early_text.specs.Refusal.{refusal_text}
+use Rattle.armcaps_early_text.specs.declared.kind.TextRefused.TheVariants as TextRefused
 use Rattle.armcaps_top.specs.declared.ending.Ending.{Ending}
 use Rattle.armcaps_top.specs.declared.ending.Ending.TheVariants.{Done, Usage, Refused, ReadFault, WriteFault, Memory}
 use Rattle.armcaps_top.specs.declared.refusal.Refusal.{Refusal}

@@ -16,8 +16,8 @@ use Rattle.armcaps_sanit.specs.Notes.{note_of}
 use Rattle.armcaps_sanit.specs.System.{system_word}
 use Rattle.armcaps_sanit.specs.Users.{user_word}
 use Rattle.armcaps_sanit.specs.Varying.{core_varies}
-use Rattle.armcaps_text.specs.Cores.{zero_core}
-use Rattle.armcaps_text.specs.Document.{Reading}
+use Rattle.armcaps_early_text.specs.Cores.{zero_core}
+use Rattle.armcaps_early_text.specs.Document.{Reading}
 use Rattle.armcaps_top.specs.Admission.{admitted_cores, role_of}
 use Rattle.armcaps_top.specs.declared.admission.Role.{Role}
 use Rattle.armcaps_top.specs.declared.admission.Role.TheVariants.{Boot, Early, Absent}

@@ -5,12 +5,12 @@ ghost use Rattle.std.specs.List.{before_first, range_with_len};
 ghost use Rattle.armcaps_sanit.specs.System.{IsSystemOf};
 ghost use Rattle.armcaps_tables.specs.Core.{Core};
 ghost use Rattle.armcaps_tables.specs.Overriding.{FieldOverrides};
-ghost use Rattle.armcaps_text.specs.Document.{reading_of};
+ghost use Rattle.armcaps_early_text.specs.Document.{reading_of};
 ghost use Rattle.armcaps_top.specs.Admission.{admitted_cores, brings_up, is_finalise, role_of};
 
 use armcaps_sanit::System;
 use armcaps_tables::CoreRegs;
-use armcaps_text::{Machine, StepLine};
+use armcaps_early_text::{Machine, StepLine};
 use std::alloc::{AllocError, Global};
 
 /// How a core of a machine comes up.

@@ -11,13 +11,13 @@ ghost use Rattle.armcaps_tables.specs.Rows.{rows_of};
 ghost use Rattle.armcaps_cmdline.specs.Overrides.{command_line_overrides};
 ghost use Rattle.armcaps_sanit.specs.System.{field_values, system_field, system_word};
 ghost use Rattle.armcaps_sanit.specs.Users.{user_field, user_word};
-ghost use Rattle.armcaps_text.specs.Cores.{zero_core};
-ghost use Rattle.armcaps_text.specs.Document.{Reading};
+ghost use Rattle.armcaps_early_text.specs.Cores.{zero_core};
+ghost use Rattle.armcaps_early_text.specs.Document.{Reading};
 ghost use Rattle.armcaps_top.specs.Admission.{admitted_cores};
 ghost use Rattle.armcaps_top.specs.Document.{document};
 
 use armcaps_cmdline::overrides_fit;
-use armcaps_text::laws::readings_are_whole;
+use armcaps_early_text::laws::readings_are_whole;
 
 /// Of every document and register: each field of the system's word is its rule's value over the admitted cores under the
 /// command line's override, each field of the word that users see is what they see of that value, and every other bit of

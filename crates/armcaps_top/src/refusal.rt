@@ -1,6 +1,6 @@
 //! Why an input is no document.
 
-use armcaps_text::{TextKind, TextRefused};
+use armcaps_early_text::{TextKind, TextRefused};
 use std::fmt;
 
 /// The most bytes that an input may have: a text of 1,048,576 bytes and, in a later release, a kernel image of 134,217,728.

@@ -11,8 +11,8 @@ ghost use Rattle.armcaps_top.specs.Report.{varies_any};
 ghost use Rattle.armcaps_tables.specs.Row.{Row};
 ghost use Rattle.armcaps_tables.specs.RowOf.{row_of};
 ghost use Rattle.armcaps_tables.specs.Rows.{rows_of};
-ghost use Rattle.armcaps_text.specs.Cores.{zero_core};
-ghost use Rattle.armcaps_text.specs.Document.{reading_of};
+ghost use Rattle.armcaps_early_text.specs.Cores.{zero_core};
+ghost use Rattle.armcaps_early_text.specs.Document.{reading_of};
 ghost use Rattle.armcaps_top.specs.Admission.{admitted_cores, role_of};
 ghost use Rattle.armcaps_top.specs.Report.{core_line, register_line, user_line, varies_line, note_line, note_line_at, note_lines, report_of};
 
@@ -21,7 +21,7 @@ use crate::varying::varies_somewhere;
 use armcaps_enc::SysReg;
 use armcaps_sanit::{Note, System, note};
 use armcaps_tables::{CoreRegs, FieldRow, Overrides, count, row};
-use armcaps_text::Machine;
+use armcaps_early_text::Machine;
 use std::alloc::{AllocError, Global};
 use std::fmt::Write;
 

@@ -3,7 +3,7 @@
 ghost use Rattle.std.specs.Prelude.{◌≡◌, ◌+◌, ◌≤◌, ◌++◌, codes};
 ghost use Rattle.std.specs.Fmt.{decimal};
 ghost use Rattle.arrayvec.specs.ArrayString.{array_string_len};
-ghost use Rattle.armcaps_text.specs.declared.kind.TextKind.{TextKind};
+ghost use Rattle.armcaps_early_text.specs.declared.kind.TextKind.{TextKind};
 ghost use Rattle.armcaps_top.specs.Ending.{ending_text};
 ghost use Rattle.armcaps_top.specs.Refusals.{refused_text};
 ghost use Rattle.armcaps_top.specs.declared.refusal.Refusal.TheVariants as Refusal;
@@ -12,7 +12,7 @@ ghost use Rattle.armcaps_top.specs.Telling.{Tells};
 use crate::ending::Ending;
 use crate::refusal::{INPUT_LIMIT, Refusal};
 use armcaps_io::{Sink, write_whole};
-use armcaps_text::TextKind;
+use armcaps_early_text::TextKind;
 use arrayvec::ArrayString;
 use itoa::Buffer;
 

@@ -4,15 +4,15 @@ ghost use Rattle.std.specs.Prelude.{[], ◌≡◌, ◌<◌, ◌&&◌, map, slice
 ghost use Rattle.std.specs.List.{range_with_len};
 ghost use Rattle.armcaps_sanit.specs.Varying.{core_varies};
 ghost use Rattle.armcaps_top.specs.Report.{varies_any};
-ghost use Rattle.armcaps_text.specs.Cores.{zero_core};
-ghost use Rattle.armcaps_text.specs.Document.{reading_of};
+ghost use Rattle.armcaps_early_text.specs.Cores.{zero_core};
+ghost use Rattle.armcaps_early_text.specs.Document.{reading_of};
 ghost use Rattle.armcaps_top.specs.Admission.{admitted_cores, is_admitted, role_of};
 
 use crate::admission::Role;
 use armcaps_enc::SysReg;
 use armcaps_sanit::varies;
 use armcaps_tables::CoreRegs;
-use armcaps_text::Machine;
+use armcaps_early_text::Machine;
 
 // Whether the core is admitted, and a strict field of the register differs between it and the boot core.
 fn is_admitted_and_varies(boot: &CoreRegs, role: Role, core: &CoreRegs, register: SysReg) -> bool

@@ -1,7 +1,7 @@
 use Rattle.std.proofs.Common.{[], ◌≡◌, length, take, rules, arith, ap, ◌∙◌}
 use Rattle.std.specs.List.{before_first}
 use Rattle.std.proofs.lemmas.List.{take_all}
-use Rattle.armcaps_text.specs.Document.{reading_of}
+use Rattle.armcaps_early_text.specs.Document.{reading_of}
 use Rattle.armcaps_top.specs.Admission.{is_finalise}
 use Rattle.armcaps_top.proofs.Roles.{all_roles}
 use Rattle.armcaps_top.proofs.admission.roles.Goals as goal

@@ -1,7 +1,7 @@
 use Rattle.std.proofs.Common.{[], ◌≡◌, ℕ, ◌<◌, length, get_or, arith, sym, ◌∙◌, ap, subst, vec_len, refl}
 use Rattle.std.proofs.lemmas.Option.{slice_get_read}
 use Rattle.std.proofs.lemmas.List.FromFn.{length-map-range_with_len, get_or-map-range_with_len}
-use Rattle.armcaps_text.specs.Document.{reading_of}
+use Rattle.armcaps_early_text.specs.Document.{reading_of}
 use Rattle.armcaps_top.specs.Admission.{role_of}
 use Rattle.armcaps_top.proofs.Standing.{Stands, stands_first, stands_all, stands_step}
 use Rattle.armcaps_top.specs.declared.admission.Role.TheVariants.{Boot}

@@ -1,9 +1,9 @@
 use Rattle.std.proofs.Common.{[]}
 use Rattle.std.specs.Prelude.{slice_index_or}
 use Rattle.armcaps_enc.specs.Registers.{tracked}
-use Rattle.armcaps_text.specs.Cores.{zero_core}
+use Rattle.armcaps_early_text.specs.Cores.{zero_core}
 use Rattle.armcaps_top.specs.Report.{varies_any}
-use Rattle.armcaps_text.specs.Document.{reading_of}
+use Rattle.armcaps_early_text.specs.Document.{reading_of}
 use Rattle.armcaps_top.specs.Admission.{admitted_cores}
 use Rattle.armcaps_top.proofs.Ranges.{item_more}
 use Rattle.armcaps_top.specs.Report.{varies_line}

@@ -2,9 +2,9 @@ use Rattle.std.proofs.Common.{[], ◌≡◌, ◌++◌, take, string_bytes}
 use Rattle.std.specs.Prelude.{slice_index_or}
 use Rattle.std.specs.List.{flat_map}
 use Rattle.armcaps_enc.specs.Registers.{tracked}
-use Rattle.armcaps_text.specs.Cores.{zero_core}
+use Rattle.armcaps_early_text.specs.Cores.{zero_core}
 use Rattle.armcaps_top.specs.Report.{varies_any}
-use Rattle.armcaps_text.specs.Document.{reading_of}
+use Rattle.armcaps_early_text.specs.Document.{reading_of}
 use Rattle.armcaps_top.specs.Admission.{admitted_cores}
 use Rattle.armcaps_top.specs.Report.{varies_line}
 use Rattle.armcaps_top.proofs.report.push_variations.Given as goal

@@ -1,8 +1,8 @@
 use Rattle.std.proofs.Common.{◌≡◌, ℕ, ◌<◌, List, [], ◌++◌, get_or, length, refl, sym, ◌∙◌, ap, arith, vec_len}
 use Rattle.std.specs.Prelude.{codes}
 use Rattle.std.proofs.lemmas.Option.{get_or_from_slice_get, slice_get_read}
-use Rattle.armcaps_text.specs.Document.{reading_of}
-use Rattle.armcaps_text.specs.Cores.{zero_core}
+use Rattle.armcaps_early_text.specs.Document.{reading_of}
+use Rattle.armcaps_early_text.specs.Cores.{zero_core}
 use Rattle.armcaps_top.specs.Admission.{admitted_cores, role_of}
 use Rattle.armcaps_top.proofs.Joining.{report_built}
 use Rattle.armcaps_top.proofs.Roles.{roles_whole}

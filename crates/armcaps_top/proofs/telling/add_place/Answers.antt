@@ -1,6 +1,6 @@
 use Rattle.std.proofs.Common.{ap, ◌∙◌, ◌++◌, List, ℕ, rules}
 use Rattle.std.specs.Fmt.{decimal}
-use Rattle.armcaps_text.specs.Refusal.{refusal_text}
+use Rattle.armcaps_early_text.specs.Refusal.{refusal_text}
 use Rattle.armcaps_top.specs.Refusals.{refused_text}
 use Rattle.armcaps_top.proofs.Texts.{six_pieces}
 use Rattle.armcaps_top.proofs.telling.add_place.Goals as goal

@@ -3,7 +3,7 @@ use Rattle.std.proofs.lemmas.Option.{slice_get_read}
 use Rattle.std.proofs.lemmas.List.FromFn.{length-map-range_with_len, get_or-map-range_with_len}
 use Rattle.armcaps_top.specs.Report.{varies_any}
 use Rattle.armcaps_tables.specs.Core.{Core}
-use Rattle.armcaps_text.specs.Document.{reading_of}
+use Rattle.armcaps_early_text.specs.Document.{reading_of}
 use Rattle.armcaps_top.specs.Admission.{admitted_cores, role_of}
 use Rattle.armcaps_top.specs.declared.admission.Role.TheVariants.{Boot}
 use Rattle.armcaps_top.proofs.Searching.{NoneVaries, boot_read, none_at_all, none_more, some_varies}

@@ -1,5 +1,5 @@
 use Rattle.std.proofs.Common.{[]}
-use Rattle.armcaps_text.specs.Document.{reading_of}
+use Rattle.armcaps_early_text.specs.Document.{reading_of}
 use Rattle.armcaps_top.proofs.Searching.{NoneVaries}
 use Rattle.armcaps_top.proofs.varying.varies_somewhere.Given as goal
 
