@@ -1,0 +1,11 @@
+pub mod LineLemmas
+pub mod TokenLemmas
+pub mod Groups
+pub mod Pushes
+pub mod StepLemmas
+pub mod Maps
+pub mod LineByLine
+pub mod KnownNames
+pub mod Walk
+pub mod LastLine
+pub mod Soundness

@@ -1,0 +1,16 @@
+pub mod Lines
+pub mod Tokens
+pub mod Numbers
+pub mod Formats
+pub mod Forms
+pub mod Arguments
+pub mod Meaning
+pub mod Steps
+pub mod Kept
+pub mod Before
+pub mod Learned
+pub mod Kinds
+pub mod Document
+pub mod Sound
+pub mod Reader
+pub mod Refusal

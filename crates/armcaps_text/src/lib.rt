@@ -1,0 +1,24 @@
+//! The machine text: what it says of a machine, and where and why another text is refused.
+#![tactic(auto)]
+
+mod arguments;
+mod form;
+mod format;
+mod kind;
+mod kinds;
+mod line;
+mod lines;
+mod machine;
+mod number;
+mod reader;
+mod step_line;
+mod steps;
+mod tokens;
+
+pub use format::Format;
+pub use kind::{TextKind, TextRefused};
+pub use machine::Machine;
+pub use step_line::StepLine;
+
+#[cfg(test)]
+mod tests;
