@@ -12,7 +12,7 @@ use Rattle.armcaps_alt.specs.declared.table_entry.Entry.{Entry}
 use Rattle.armcaps_alt.specs.declared.table_place.Layout.{Layout}
 use Rattle.armcaps_alt.specs.Entries.{Features}
 use Rattle.armcaps_alt.specs.Patched.{byte_of, patched_image}
-use Rattle.armcaps_alt.specs.Refusals.{refusal_of}
+use Rattle.armcaps_alt.specs.Refusals.{first_refusal, refusal_of}
 use Rattle.armcaps_alt.specs.Words.{callback_word_of}
 
 abbrev bytes_of : List ℕ → List ℕ
@@ -82,6 +82,15 @@ pub kinds : map (refusal_of features image) (
     ∷ Some Literal ∷ None ∷ None ∷ []
 unfolding class_of encodings
 kinds = refl
+
+-- the first entry that is refused, by its number
+pub first : first_refusal (record features { names = record features.names { callbacks = [] } }) image (record { table = 0; count = 3 }) ≡ Some (record { entry = 2; kind = UnknownCallback })
+unfolding class_of encodings
+first = refl
+
+pub none_refused : first_refusal features image (record { table = 0; count = 3 }) ≡ None
+unfolding class_of encodings
+none_refused = refl
 
 -- TBZ whose target is the furthest backwards reaches it from its own place alone
 pub too_far : refusal_of features (image_with 0 0 0x36040000) (entry (pos 68) (pos 64) 2 false 4 4) ≡ Some Range

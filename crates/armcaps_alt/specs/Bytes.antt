@@ -2,15 +2,15 @@
 use Rattle.std.specs.Prelude.{◌+◌, ◌*◌, ◌^◌, ◌-ℤ◌, ℕ, ℤ, List, if◌then◌else◌, nat_le, pos, slice_index}
 
 -- the number in the two bytes at a place
-abbrev pub half_at : List ℕ → ℕ → ℕ
-half_at bytes place = slice_index bytes place + 2 ^ 8 * slice_index bytes (place + 1)
+abbrev pub half_in : List ℕ → ℕ → ℕ
+half_in bytes place = slice_index bytes place + 2 ^ 8 * slice_index bytes (place + 1)
 
 -- the number in the four bytes at a place
-abbrev pub word_at : List ℕ → ℕ → ℕ
-word_at bytes place = half_at bytes place + 2 ^ 16 * half_at bytes (place + 2)
+abbrev pub word_in : List ℕ → ℕ → ℕ
+word_in bytes place = half_in bytes place + 2 ^ 16 * half_in bytes (place + 2)
 
 -- the number in the four bytes at a place, in two's complement
-abbrev pub signed_at : List ℕ → ℕ → ℤ
-signed_at bytes place =
-    let word = word_at bytes place in
+abbrev pub signed_in : List ℕ → ℕ → ℤ
+signed_in bytes place =
+    let word = word_in bytes place in
     if nat_le (2 ^ 31) word then pos word -ℤ pos (2 ^ 32) else pos word

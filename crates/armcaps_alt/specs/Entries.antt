@@ -6,16 +6,17 @@ use Rattle.armcaps_alt.specs.declared.named_number.Named.{Named}
 use Rattle.armcaps_alt.specs.declared.named_number.Named.TheVariants.{Cap, Given}
 use Rattle.armcaps_alt.specs.declared.table_entry.Entry.{Entry}
 use Rattle.armcaps_alt.specs.declared.table_place.Layout.{Layout}
-use Rattle.armcaps_alt.specs.Bytes.{half_at, signed_at}
+use Rattle.armcaps_alt.specs.Bytes.{half_in, signed_in}
 use Rattle.armcaps_alt.specs.Names.{NameLists, number_named}
 
--- the entry in the first twelve of these bytes, which stand at a place of the image; each offset counts from its own field's place
+-- the entry in the first twelve of these bytes, which stand at a place of the image; each offset counts from its own
+-- field's place
 abbrev pub entry_from : List ℕ → ℕ → Entry
 entry_from bytes place = record {
-  site = pos place +ℤ signed_at bytes 0;
-  repl = pos (place + 4) +ℤ signed_at bytes 4;
-  number = half_at bytes 8 % 2 ^ 15;
-  callback = nat_le (2 ^ 15) (half_at bytes 8);
+  site = pos place +ℤ signed_in bytes 0;
+  repl = pos (place + 4) +ℤ signed_in bytes 4;
+  number = half_in bytes 8 % 2 ^ 15;
+  callback = nat_le (2 ^ 15) (half_in bytes 8);
   orig_len = slice_index bytes 10;
   alt_len = slice_index bytes 11;
 }
@@ -28,7 +29,8 @@ entry_at image layout index = entry_from (drop (layout.table + 12 * index) image
 abbrev pub entries_of : List ℕ → Layout → List Entry
 entries_of image layout = map (entry_at image layout) (range_with_len 0 layout.count)
 
--- what a machine has: what the table's numbers and callbacks mean, the capabilities that are enabled, and CTR_EL0
+-- what a machine has: what the table's numbers and callbacks mean, the capabilities that are enabled, and the system's
+-- word of CTR_EL0 over the cores that came early, which is the one that is kept when the capabilities are final
 pub record Features : Type 0 where
   pub names : NameLists
   pub enabled : ℕ → Bool

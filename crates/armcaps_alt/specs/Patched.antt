@@ -28,7 +28,8 @@ new_byte features image entry place =
 -- the patched byte at a place: of the new word by the last selected entry that covers it, and else the original
 abbrev pub patched_byte : Features → List ℕ → List Entry → ℕ → ℕ
 patched_byte features image entries place =
-    option_map_or (λ entry. new_byte features image entry place) (last_that (covers place) entries) (slice_index image place)
+    let original = slice_index image place in
+    option_map_or (λ entry. new_byte features image entry place) (last_that (covers place) entries) original
 
 -- the patched image
 abbrev pub patched_image : Features → List ℕ → Layout → List ℕ

@@ -9,7 +9,7 @@ use Rattle.armcaps_alt.specs.declared.callback_kind.CallbackKind.TheVariants as 
 use Rattle.armcaps_alt.specs.declared.smccc_conduit.Conduit.{Conduit}
 use Rattle.armcaps_alt.specs.declared.smccc_conduit.Conduit.TheVariants as conduit
 use Rattle.armcaps_alt.specs.declared.table_entry.Entry.{Entry}
-use Rattle.armcaps_alt.specs.Bytes.{word_at}
+use Rattle.armcaps_alt.specs.Bytes.{word_in}
 use Rattle.armcaps_alt.specs.Entries.{Features}
 use Rattle.armcaps_alt.specs.Names.{callback_named}
 
@@ -23,10 +23,11 @@ IsIndex callback.Keep index = Unit {0}
 -- MOVZ or MOVK of the index-th sixteen bits of a word into a register (Arm ARM DDI 0487, "MOVZ", "MOVK")
 abbrev pub move_of : ℕ → ℕ → ℕ → ℕ
 move_of index word register =
-    (if index == 0 then 0xd2800000 else 0xf2800000) + index * 2 ^ 21 + word / 2 ^ (16 * index) % 2 ^ 16 * 2 ^ 5 + register
+    let bits = word / 2 ^ (16 * index) % 2 ^ 16 in
+    (if index == 0 then 0xd2800000 else 0xf2800000) + index * 2 ^ 21 + bits * 2 ^ 5 + register
 
--- the word that a callback makes: NOP; the load of CTR_EL0 into the register of the first word; HVC #0, SMC #0 or the original word; the
--- original word
+-- the word that a callback makes: NOP; the load of CTR_EL0 into the register of the first word; HVC #0, SMC #0 or the
+-- original word; the original word
 abbrev pub callback_word_of : CallbackKind → ℕ → ℕ → Conduit → ℕ → ℕ → ℕ
 callback_word_of callback.Nops index ctr way first orig = 0xd503201f
 callback_word_of callback.FinalCtr index ctr way first orig = move_of index ctr (first % 2 ^ 5)
@@ -44,7 +45,8 @@ place_of (negsuc n) = 0
 abbrev pub replacement_word : List ℕ → Entry → ℕ → Result ℕ FixRefused
 replacement_word image entry index =
     let from = place_of entry.repl in
-    corrected (word_at image (from + 4 * index)) (from + 4 * index) (place_of entry.site + 4 * index) from (from + entry.orig_len)
+    let to = place_of entry.site + 4 * index in
+    corrected (word_in image (from + 4 * index)) (from + 4 * index) to from (from + entry.orig_len)
 
 -- the words of an entry's replacement, moved to its site
 abbrev pub replacement_words : List ℕ → Entry → List (Result ℕ FixRefused)
@@ -54,17 +56,20 @@ replacement_words image entry = map (replacement_word image entry) (range_with_l
 abbrev pub callback_word_at : Features → List ℕ → Entry → CallbackKind → ℕ → ℕ
 callback_word_at features image entry kind index =
     let site = place_of entry.site in
-    callback_word_of kind index features.ctr features.names.conduit (word_at image site) (word_at image (site + 4 * index))
+    let orig = word_in image (site + 4 * index) in
+    callback_word_of kind index features.ctr features.names.conduit (word_in image site) orig
 
 -- the word, or another where there is none
 abbrev pub ok_or_word : Result ℕ FixRefused → ℕ → ℕ
 ok_or_word (Ok word) other = word
 ok_or_word (Err refused) other = other
 
--- the new word of an entry's site at an index; all reads are of the original image
+-- the new word of an entry's site at an index; all reads are of the original image. A callback that isn't named and a
+-- word that can't move, which an entry that is not refused hasn't, leave the original word
 abbrev pub new_word : Features → List ℕ → Entry → ℕ → ℕ
 new_word features image entry index =
-    let orig = word_at image (place_of entry.site + 4 * index) in
+    let orig = word_in image (place_of entry.site + 4 * index) in
+    let call = callback_named features.names entry.repl in
     if entry.callback
-    then option_map_or (λ kind. callback_word_at features image entry kind index) (callback_named features.names entry.repl) orig
+    then option_map_or (λ kind. callback_word_at features image entry kind index) call orig
     else ok_or_word (replacement_word image entry index) orig

@@ -15,8 +15,8 @@ const MOVZ: u32 = 0xd280_0000;
 
 const MOVK: u32 = 0xf280_0000;
 
-/// The word that a callback makes: the one at `index` from the site's begin, in words. `first` is the site's original first
-/// word and `orig` the one at this place, `ctr` is CTR_EL0 as the system has it.
+/// The word that a callback makes: the one at `index` from the site's first, in words. `first` is the site's original
+/// first word and `orig` the one at this place, `ctr` is CTR_EL0 as the cores that came early share it.
 pub fn callback_word(
     kind: CallbackKind,
     index: u32,

@@ -27,8 +27,8 @@ impl Model for Names {
 }
 
 impl Names {
-    /// Names of the numbers, the callbacks by their offsets, and the conduit. Numbers and offsets rise, and a capability
-    /// is one of the 53.
+    /// Names of the numbers, the callbacks by their offsets, and the conduit. Numbers and offsets rise, and a
+    /// capability is one of the 53.
     pub fn new(
         numbers: Vec<(u16, Named)>,
         callbacks: Vec<(u32, CallbackKind)>,

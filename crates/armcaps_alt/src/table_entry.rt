@@ -1,13 +1,13 @@
 ghost use Rattle.std.specs.Prelude.{◌≡◌, ◌+◌, ◌+ℤ◌, ◌<◌, ◌<ℤ◌, ◌≤◌, ◌≤ℤ◌, ◌^◌, length, neg_ℤ, pos};
-ghost use Rattle.armcaps_alt.specs.Bytes.{half_at, signed_at, word_at};
+ghost use Rattle.armcaps_alt.specs.Bytes.{half_in, signed_in, word_in};
 ghost use Rattle.armcaps_alt.specs.Entries.{entry_from};
 
 use byteorder::{ByteOrder, LittleEndian};
 
 /// An entry of the table of alternatives (Linux, arch/arm64/include/asm/alternative.h, `struct alt_instr`).
 ///
-/// It has twelve bytes, little-endian: where its site is, where its replacement is, each in four bytes from that field's own
-/// place, a number in two, and the lengths of site and replacement in one byte each.
+/// It has twelve bytes, little-endian: where its site is, where its replacement is, each in four bytes from that
+/// field's own place, a number in two, and the lengths of site and replacement in one byte each.
 #[derive(Clone, Copy, Debug, PartialEq, Eq)]
 pub struct Entry {
     /// The site's offset in bytes from the image's first byte.
@@ -56,7 +56,7 @@ fn target(place: u64, offset: i64) -> i64
 // The signed number in the four bytes at a place.
 fn signed(bytes: &[u8], place: usize) -> i64
     requires { place + 4 ≤ length bytes.now }
-    ensures value { result ≡ signed_at bytes.now place }
+    ensures value { result ≡ signed_in bytes.now place }
     ensures low { neg_ℤ (pos (2 ^ 31)) ≤ℤ result }
     ensures high { result <ℤ pos (2 ^ 31) }
 {
@@ -66,7 +66,7 @@ fn signed(bytes: &[u8], place: usize) -> i64
 // The number in the four bytes at a place.
 fn word(bytes: &[u8], place: usize) -> u32
     requires { place + 4 ≤ length bytes.now }
-    ensures { result ≡ word_at bytes.now place }
+    ensures { result ≡ word_in bytes.now place }
 {
     LittleEndian::read_u32(&bytes[place..])
 }
@@ -74,7 +74,7 @@ fn word(bytes: &[u8], place: usize) -> u32
 // The number in the two bytes at a place.
 fn half(bytes: &[u8], place: usize) -> u16
     requires { place + 2 ≤ length bytes.now }
-    ensures { result ≡ half_at bytes.now place }
+    ensures { result ≡ half_in bytes.now place }
 {
     LittleEndian::read_u16(&bytes[place..])
 }

@@ -1,4 +1,5 @@
 use super::*;
+use armcaps_caps::CapSet;
 use std::test::Fail;
 
 #[test]
@@ -24,7 +25,7 @@ fn names_are_found(rt: HostRuntime) -> Result<(), Fail> {
     Ok(())
 }
 
-// Twelve bytes at the begin of an image: the site, the replacement, the number, whether there is a callback, the lengths.
+// Twelve bytes: the site, the replacement, the number, whether there is a callback, the lengths.
 #[test]
 fn entries_are_read(rt: HostRuntime) {
     let cases: [([u8; 12], i64, i64, u16, bool, u8, u8); 6] = [
@@ -136,4 +137,38 @@ fn callbacks_make_words(rt: HostRuntime) {
         );
         assert_eq!(rt; made, *expected);
     }
+}
+
+#[test]
+fn kinds_are_reported(rt: HostRuntime) {
+    assert_eq!(rt; PatchKind::UnknownCap.number(), 1);
+    assert_eq!(rt; PatchKind::CallbackLength.number(), 7);
+    assert_eq!(rt; PatchKind::Range.number(), 9);
+    assert_eq!(rt; PatchKind::Literal.word(), "literal");
+    assert_eq!(rt; PatchKind::ReplacementOutside.word(), "replacement-outside");
+}
+
+#[test]
+fn entries_are_selected(rt: HostRuntime) -> Result<(), Fail> {
+    let numbers = vec![in rt.alloc();
+        (1, Named::Cap(1)),
+        (2, Named::Cap(8)),
+        (7, Named::Given(true)),
+        (9, Named::Given(false)),
+    ]?;
+    let names = Names::new(numbers, Vec::new(rt.alloc()), Conduit::None);
+    let mut enabled = CapSet::empty();
+    enabled.insert(1);
+    for (number, expected) in [
+        (1, Some(true)),
+        (2, Some(false)),
+        (7, Some(true)),
+        (9, Some(false)),
+        (3, None),
+    ] {
+        let mut entry = Entry::read(&[0; 12], 0);
+        entry.number = number;
+        assert_eq!(rt; selected(&entry, &names, &enabled), expected);
+    }
+    Ok(())
 }
