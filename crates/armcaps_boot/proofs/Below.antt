@@ -1,0 +1,82 @@
+-- What the crates below say, in the form in which it is used here.
+use Rattle.std.proofs.Common.{◌≡◌, ◌<◌, ℕ, Bool, true, false, List, ◌∷◌, ◌++◌, None, refl, sym, ◌∙◌, arith, length-append}
+use Rattle.std.specs.List.{list_any}
+use Rattle.armcaps_enc.specs.declared.register.SysReg.TheVariants.{CtrEl0}
+use Rattle.armcaps_tables.specs.Core.{Core, core_word, word_at}
+use Rattle.armcaps_tables.specs.Overriding.{FieldOverrides, override_of, AllFit}
+use Rattle.armcaps_sanit.specs.System.{IsSystemOf, system_words}
+use Rattle.armcaps_caps.specs.Capabilities.{core_has_capability, system_has_capability, is_boot_scope, is_local_scope, is_system_scope, is_permitted, is_optional, is_panic, is_erratum_class}
+use Rattle.armcaps_caps.specs.Rows.{capability_rows}
+use Rattle.armcaps_caps.proofs.Classes.{number_holds}
+use Rattle.armcaps_caps.proofs.CacheType.{cache_type_compares}
+use Rattle.armcaps_caps.proofs.Shared.{system_has_capability-each}
+use Rattle.armcaps_hwcap.specs.Hwcaps.{core_has_hwcap, system_has_hwcap}
+use Rattle.armcaps_hwcap.proofs.Shown.{system_has_hwcap-each}
+
+system_of : (o : FieldOverrides) (before after : List Core) (core : Core) → AllFit o → IsSystemOf o (before ++ core ∷ after) (system_words o (before ++ core ∷ after))
+system_of o before after core fit = record { fit = fit; some = omega (arith, length-append before (core ∷ after)); words = refl }
+
+pub each_has_capability : (o : FieldOverrides) (boot core : Core) (ctr number : ℕ) (before after : List Core) → AllFit o
+    → system_has_capability (system_words o (before ++ core ∷ after)) number ≡ true → core_has_capability o boot ctr core number ≡ true
+each_has_capability o boot core ctr number before after fit has =
+    system_has_capability-each o before after (system_words o (before ++ core ∷ after)) boot core ctr number (system_of o before after core fit) has
+
+pub each_has_hwcap : (o : FieldOverrides) (core : Core) (index : ℕ) (before after : List Core) → AllFit o
+    → system_has_hwcap (system_words o (before ++ core ∷ after)) index ≡ true → core_has_hwcap o core index ≡ true
+each_has_hwcap o core index before after fit has =
+    system_has_hwcap-each o before after (system_words o (before ++ core ∷ after)) core index (system_of o before after core fit) has
+
+pub cache_type_stays : (o : FieldOverrides) (boot core : Core) (before after : List Core) → AllFit o → ((index : ℕ) → override_of o CtrEl0 index ≡ None)
+    → list_any (λ c. core_has_capability o boot (core_word boot CtrEl0) c 42) (before ++ boot ∷ after) ≡ false
+    → core_has_capability o boot (word_at (system_words o (before ++ boot ∷ after)) CtrEl0) core 42 ≡ core_has_capability o boot (core_word boot CtrEl0) core 42
+cache_type_stays o boot core before after fit plain none =
+    cache_type_compares o (before ++ boot ∷ after) (system_words o (before ++ boot ∷ after)) boot core (system_of o before after boot fit) plain none
+
+not_both : (one other : Bool) → (one ≡ true → other ≡ false) → other ≡ true → one ≡ false
+not_both true other h is = absurd (let bad : true ≡ false = sym is ∙ h refl in let no : ⊥ = cc in no)
+not_both false other h is = refl
+
+pub system_scope_else : (number : ℕ) → number < 53 → is_boot_scope number ≡ false → is_local_scope number ≡ false → is_system_scope number ≡ true
+system_scope_else number within boot local = (number_holds number within).decided boot local
+
+-- what else is known of a capability of system scope
+pub record SystemScope (number : ℕ) : Type 0 where
+  pub not_boot : is_boot_scope number ≡ false
+  pub permitted : is_permitted number ≡ true
+  pub needed : is_optional number ≡ false
+
+pub system_alone : (number : ℕ) → number < 53 → is_system_scope number ≡ true → SystemScope number
+system_alone number within system = let holds = number_holds number within in record {
+  not_boot = not_both (is_boot_scope number) (is_system_scope number) holds.boot_not_system system;
+  permitted = holds.system_permitted system;
+  needed = holds.system_not_optional system;
+}
+
+-- what else is known of a local capability
+pub record LocalScope (number : ℕ) : Type 0 where
+  pub not_boot : is_boot_scope number ≡ false
+  pub optional : is_optional number ≡ true
+
+pub local_alone : (number : ℕ) → number < 53 → is_local_scope number ≡ true → LocalScope number
+local_alone number within local = let holds = number_holds number within in record {
+  not_boot = not_both (is_boot_scope number) (is_local_scope number) holds.boot_not_local local;
+  optional = holds.local_optional local;
+}
+
+pub panic_is_boot : (number : ℕ) → number < 53 → is_panic number ≡ true → is_boot_scope number ≡ true
+panic_is_boot number within panic = (number_holds number within).panic_boot panic
+
+-- what is known of a workaround
+pub record Workaround (number : ℕ) : Type 0 where
+  pub is_local : is_local_scope number ≡ true
+  pub strict : is_permitted number ≡ false
+
+pub erratum_is_local : (number : ℕ) → number < 53 → is_erratum_class number ≡ true → Workaround number
+erratum_is_local number within erratum = let holds = number_holds number within in record {
+  is_local = holds.erratum_local erratum;
+  strict = holds.erratum_not_permitted erratum;
+}
+
+pub cache_type_is_erratum : is_erratum_class 42 ≡ true
+unfolding is_erratum_class capability_rows
+cache_type_is_erratum = refl

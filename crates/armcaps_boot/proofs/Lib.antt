@@ -1,0 +1,15 @@
+pub mod ChosenCores
+pub mod FirstNumbers
+pub mod Below
+pub mod Moves
+pub mod EarlyCores
+pub mod Gathered
+pub mod CoreSteps
+pub mod Finalising
+pub mod StepLaw
+pub mod CacheType
+pub mod Asked
+pub mod FinalWorld
+pub mod Beginning
+pub mod SafeSystem
+pub mod ComingBack

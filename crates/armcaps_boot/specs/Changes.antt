@@ -1,0 +1,99 @@
+-- What a step changes in a machine.
+use Rattle.std.specs.Prelude.{ℕ, Bool, true, false, ◌&&◌, ◌||◌, if◌then◌else◌, List, Some, Ok, Err, slice_set, bit_and}
+use Rattle.armcaps_enc.specs.declared.register.SysReg.TheVariants.{CtrEl0}
+use Rattle.armcaps_tables.specs.Core.{word_at}
+use Rattle.armcaps_sanit.specs.System.{merged_words}
+use Rattle.armcaps_caps.specs.Capabilities.{is_local_scope}
+use Rattle.armcaps_hwcap.specs.Words.{hwcap_word, hwcap2_word}
+use Rattle.armcaps_boot.specs.declared.core_state.CoreState.{CoreState}
+use Rattle.armcaps_boot.specs.declared.core_state.CoreState.TheVariants.{Checked, Updated, Admitted, Offline as Gone, Parked as IsParked, Panicked as HasPanicked}
+use Rattle.armcaps_boot.specs.declared.event.Event.{Event}
+use Rattle.armcaps_boot.specs.declared.event.Event.TheVariants.{Check, Local, Store, Offline, Finalise}
+use Rattle.armcaps_boot.specs.declared.past.Past.{Past}
+use Rattle.armcaps_boot.specs.declared.past.Past.TheVariants.{Never, Early, Late}
+use Rattle.armcaps_boot.specs.declared.reply.Reply.{Reply}
+use Rattle.armcaps_boot.specs.declared.reply.Reply.TheVariants.{Done, Parked, Panicked}
+use Rattle.armcaps_boot.specs.Answers.{Answer}
+use Rattle.armcaps_boot.specs.Causes.{has_capability, capability_enabled, hwcap_advertised}
+use Rattle.armcaps_boot.specs.Numbers.{numbers, is_in}
+use Rattle.armcaps_boot.specs.States.{past_of}
+use Rattle.armcaps_boot.specs.World.{World, core_at, state_at, boot_of, early_cores}
+
+-- the core that a step is of, and 0 for finalisation, which is of none and holds none back
+abbrev pub core_of : Event → ℕ
+core_of (Check number) = number
+core_of (Local number) = number
+core_of (Store number) = number
+core_of (Offline number) = number
+core_of Finalise = 0
+
+-- a core has another state
+abbrev pub with_state : World → ℕ → CoreState → World
+with_state world number state = record world { states = slice_set world.states number state }
+
+-- as what a core is admitted that was admitted as this before: one that never was is late where finalisation was done
+abbrev pub admitted_after : Bool → Past → CoreState
+admitted_after final Never = Admitted final
+admitted_after final Early = Admitted false
+admitted_after final Late = Admitted true
+
+-- an admitted core that goes
+abbrev pub gone_after : Past → CoreState
+gone_after Late = Gone true
+gone_after _ = Gone false
+
+-- the capabilities noted, with the local ones that one more core has
+abbrev pub noted_with : World → ℕ → List Bool
+noted_with world number =
+    numbers 53 (λ n. is_in world.noted n || (is_local_scope n && has_capability world.overrides (boot_of world) (core_at world.cores number) n))
+
+abbrev pub checked_world : World → ℕ → World
+checked_world world number = with_state world number (Checked (past_of (state_at world.states number)))
+
+abbrev pub updated_world : World → ℕ → World
+updated_world world number =
+    record (with_state world number (Updated (past_of (state_at world.states number)))) { noted = if world.final then world.noted else noted_with world number }
+
+abbrev pub stored_world : World → ℕ → World
+stored_world world number =
+    record (with_state world number (admitted_after world.final (past_of (state_at world.states number)))) {
+      system = merged_words world.system (core_at world.cores number);
+      kept = if world.final then world.kept else bit_and world.kept (core_at world.cores number).lengths;
+    }
+
+abbrev pub left_world : World → ℕ → World
+left_world world number = with_state world number (gone_after (past_of (state_at world.states number)))
+
+-- what the early cores have in common is decided for good
+abbrev pub final_world : World → World
+final_world world = record world {
+  final = true;
+  enabled = numbers 53 (capability_enabled world.overrides (boot_of world) (early_cores world));
+  hwcaps = record {
+    hwcap = hwcap_word (hwcap_advertised world.overrides (early_cores world));
+    hwcap2 = hwcap2_word (hwcap_advertised world.overrides (early_cores world));
+  };
+  ctr = word_at world.system CtrEl0;
+  lengths = if capability_enabled world.overrides (boot_of world) (early_cores world) 36 then world.kept else 0;
+}
+
+-- a step that is done
+abbrev pub done_world : World → Event → World
+done_world world (Check number) = checked_world world number
+done_world world (Local number) = updated_world world number
+done_world world (Store number) = stored_world world number
+done_world world (Offline number) = left_world world number
+done_world world Finalise = final_world world
+
+-- a step that holds a core back, or is skipped
+abbrev pub held_world : World → ℕ → Reply → World
+held_world world number (Parked cause) = with_state world number (IsParked cause)
+held_world world number (Panicked cause) =
+    record (with_state world number (HasPanicked cause)) { halted = Some (record { core = number; cause = cause }) }
+held_world world number _ = world
+
+-- a machine after a step that was answered so: after a refusal or a skipped step it is as it was
+abbrev pub world_after : World → Event → Answer → World
+world_after world event (Ok Done) = done_world world event
+world_after world event (Ok reply) = held_world world (core_of event) reply
+world_after world event (Err refused) = world

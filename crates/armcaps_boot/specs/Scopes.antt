@@ -1,0 +1,48 @@
+-- What the code asks: the same as the definitions, of what it keeps, with the cache type compared with that of the present
+-- system word.
+use Rattle.std.specs.Prelude.{ℕ, Bool, ◌&&◌, List, Option, Some, true, false, not, nat_lt, if◌then◌else◌}
+use Rattle.std.specs.Option.{option_map, option_or}
+use Rattle.armcaps_tables.specs.Core.{Core}
+use Rattle.armcaps_tables.specs.Overriding.{FieldOverrides}
+use Rattle.armcaps_caps.specs.Capabilities.{conflicts, core_has_capability, is_boot_scope, is_local_scope, system_has_capability}
+use Rattle.armcaps_caps.specs.Set.{holds}
+use Rattle.armcaps_hwcap.specs.declared.hw_set.HwSet.{HwSet}
+use Rattle.armcaps_hwcap.specs.Hwcaps.{core_has_hwcap}
+use Rattle.armcaps_hwcap.specs.Words.{set_has_row}
+use Rattle.armcaps_boot.specs.declared.cause.Cause.{Cause}
+use Rattle.armcaps_boot.specs.declared.cause.Cause.TheVariants.{Asid, Cap, Hwcap, Vector}
+use Rattle.armcaps_boot.specs.Causes.{asid_bits, has_length}
+use Rattle.armcaps_boot.specs.Numbers.{first_of}
+
+-- whether a capability is of boot scope, or is not
+abbrev pub in_scope : Bool → ℕ → Bool
+in_scope boot number = if boot then is_boot_scope number else not (is_boot_scope number)
+
+-- whether a capability is of boot scope, or else local
+abbrev pub own_scope : Bool → ℕ → Bool
+own_scope boot number = if boot then is_boot_scope number else is_local_scope number
+
+-- whether a capability is enabled by what was gathered before finalisation: the sets of those of boot scope and of those noted,
+-- and the words of the system registers
+unfoldable pub enabled_by : ℕ → ℕ → List ℕ → ℕ → Bool
+enabled_by enabled noted words number =
+    if is_boot_scope number then holds enabled number
+    else if is_local_scope number then holds noted number
+    else system_has_capability words number
+
+-- the first conflict with a set of capabilities
+unfoldable pub conflict_with : Bool → ℕ → FieldOverrides → Core → Core → ℕ → Option ℕ
+conflict_with boot_scope enabled overrides boot core ctr =
+    first_of 0 53 (λ n. in_scope boot_scope n && conflicts n (holds enabled n) (core_has_capability overrides boot ctr core n))
+
+-- the first lack of what a system has
+unfoldable pub lack_of : ℕ → HwSet → ℕ → FieldOverrides → Core → Core → ℕ → Option Cause
+lack_of enabled hwcaps lengths overrides boot core ctr =
+    option_or (option_map Cap (conflict_with false enabled overrides boot core ctr))
+    (option_or (option_map Hwcap (first_of 0 57 (λ index. set_has_row hwcaps index && not (core_has_hwcap overrides core index))))
+    (option_map Vector (first_of 1 16 (λ length. has_length lengths length && not (has_length core.lengths length)))))
+
+-- what holds a core back at its check
+unfoldable pub held_at_check : ℕ → FieldOverrides → Core → Core → ℕ → Option Cause
+held_at_check enabled overrides boot core ctr =
+    if nat_lt (asid_bits core) (asid_bits boot) then Some Asid else option_map Cap (conflict_with true enabled overrides boot core ctr)

@@ -1,0 +1,196 @@
+ghost use Rattle.std.specs.Prelude.{◌≡◌, ◌<◌, ◌≤◌, ◌&&◌, ℕ, true, false, length, slice_get, None, Ok, Err, IfOk, IfErr, OnErr, nat_lt, if◌then◌else◌};
+ghost use Rattle.std.specs.Option.{option_copied};
+ghost use Rattle.armcaps_enc.specs.declared.register.SysReg.TheVariants.{CtrEl0};
+ghost use Rattle.armcaps_tables.specs.Core.{word_at};
+ghost use Rattle.armcaps_sanit.specs.System.{IsSystemOf};
+ghost use Rattle.armcaps_tables.specs.Overriding.{override_of};
+ghost use Rattle.armcaps_caps.specs.Capabilities.{is_erratum_class, is_system_scope};
+ghost use Rattle.armcaps_boot.specs.Answers.{answer_of};
+ghost use Rattle.armcaps_boot.specs.First.{first_states, first_world};
+ghost use Rattle.armcaps_boot.specs.Numbers.{is_in};
+
+use crate::core_state::CoreState;
+use crate::event::Event;
+use crate::machine::Machine;
+use crate::refused::{BootRefused, StepRefused};
+use crate::reply::Reply;
+use armcaps_enc::SysReg;
+use armcaps_hwcap::HwSet;
+use armcaps_sanit::System;
+use armcaps_tables::{CoreRegs, Overrides};
+use std::alloc::{AllocError, Global};
+use std::marker::Model;
+
+/// A machine whose cores are brought up step by step, in whatever order. It cannot be cloned.
+///
+/// Source: Linux, arch/arm64/kernel/cpufeature.c.
+#[derive(Drop)]
+pub struct Boot {
+    machine: Machine,
+}
+
+impl Model for Boot {
+    ghost use Rattle.armcaps_boot.specs.World.{World};
+
+    ghost Value = { World };
+
+    ghost use Rattle.armcaps_boot.specs.Facts.{Facts};
+    ghost use Rattle.armcaps_boot.specs.Machine.{world_of};
+
+    ghost view = { λ boot. world_of boot.machine };
+
+    ghost invariant = { λ boot. Facts (world_of boot.machine) };
+}
+
+impl Boot {
+    ghost use Rattle.armcaps_boot.specs.Changes.{world_after};
+    ghost use Rattle.armcaps_boot.specs.Facts.{Facts};
+    ghost use Rattle.armcaps_boot.specs.Returning.{comes_back, KeepsSystem};
+    ghost use Rattle.armcaps_boot.specs.Safety.{core_has, is_enabled, is_enabled_at_first, WasAdmitted};
+    ghost use Rattle.armcaps_boot.specs.World.{admitted_cores, boot_of, early_cores};
+
+    /// A machine before its first step: the boot core is admitted, and no other core is there. All memory that the machine
+    /// ever takes is taken here. `boot` is the boot core's number; no field of CTR_EL0 may be overridden.
+    pub fn new(
+        alloc: Global,
+        cores: Vec<CoreRegs>,
+        boot: u32,
+        overrides: Overrides,
+    ) -> Result<Boot, BootRefused>
+        requires few { length cores.items ≤ 512 }
+        requires plain_ctr { (index : ℕ) → override_of overrides CtrEl0 index ≡ None }
+        ensures first { IfOk result (λ made. made ≡ first_world cores.items boot overrides) }
+        ensures facts { IfOk result (λ made. Facts made) }
+        ensures no_boot_core { length cores.items ≤ boot → result ≡ Err BootRefused.NoBootCore }
+        ensures boot_core { boot < length cores.items → IfErr result (λ refused. refused ≡ BootRefused.Memory) }
+    {
+        if boot as usize >= cores.len() {
+            return Err(BootRefused::NoBootCore);
+        }
+        match states_at_first(alloc, cores.len(), boot) {
+            Ok(states) => Ok(Boot {
+                machine: Machine::first(cores, boot, overrides, states),
+            }),
+            Err(_) => Err(BootRefused::Memory),
+        }
+    }
+
+    /// Makes one step. It takes no memory, and looks at a fixed number of rows of the tables. A core that was admitted, went
+    /// and comes back is held back at none of its steps, and leaves the system as it is.
+    pub fn step(&mut self, event: Event) -> Result<Reply, StepRefused>
+        ensures answer { result ≡ answer_of self.old event }
+        ensures after { self.new ≡ world_after self.old event result }
+        ensures refused { OnErr result (self.new ≡ self.old) }
+        ensures skipped { result ≡ Ok Reply.Skipped → self.new ≡ self.old }
+        ensures facts { Facts self.new }
+        ensures back { self.old.halted ≡ None → comes_back self.old event ≡ true → (result ≡ Ok Reply.Done) × KeepsSystem self.old self.new }
+    {
+        self.machine.step(event)
+    }
+
+    /// What holds of a machine whatever steps it has made.
+    pub fn facts_hold(&self)
+        ensures { Facts self.now }
+    {
+        let _ = &self.machine;
+    }
+
+    /// The number of cores.
+    pub fn count(&self) -> u32
+        ensures { result ≡ length self.now.cores }
+    {
+        self.machine.cores.len() as u32
+    }
+
+    /// The number of the boot core.
+    pub fn boot_core(&self) -> u32
+        ensures { result ≡ self.now.boot }
+    {
+        self.machine.boot
+    }
+
+    /// A core, by its number.
+    pub fn core(&self, core: u32) -> Option<&CoreRegs>
+        ensures { option_copied result ≡ slice_get self.now.cores core }
+    {
+        self.machine.cores.get(core as usize)
+    }
+
+    /// The values that stand in for fields.
+    pub fn overrides(&self) -> &Overrides
+        ensures { result.now ≡ self.now.overrides }
+    {
+        &self.machine.overrides
+    }
+
+    /// The system registers: over the cores that were ever admitted.
+    pub fn system(&self) -> &System
+        ensures system { result.now ≡ self.now.system }
+        ensures stands { IsSystemOf self.now.overrides (admitted_cores self.now) result.now }
+    {
+        &self.machine.system
+    }
+
+    /// A core's state, by its number.
+    pub fn state(&self, core: u32) -> Option<CoreState>
+        ensures { result ≡ slice_get self.now.states core }
+    {
+        self.machine.states.get(core as usize).copied()
+    }
+
+    /// Whether finalisation was done.
+    pub fn is_final(&self) -> bool
+        ensures { result ≡ self.now.final }
+    {
+        self.machine.is_final
+    }
+
+    /// Whether the capability of this number is enabled: before finalisation those of boot scope alone. Each core that was
+    /// ever admitted has each system feature that is enabled, and each workaround that such a core needs is enabled.
+    pub fn enabled(&self, number: u16) -> bool
+        ensures member { result ≡ is_in self.now.enabled number }
+        ensures before { self.now.final ≡ false → result ≡ is_enabled_at_first self.now number }
+        ensures after { self.now.final ≡ true → number < 53 → result ≡ is_enabled self.now number }
+        ensures supported { self.now.final ≡ true → number < 53 → is_system_scope number ≡ true → result ≡ true
+            → (core : ℕ) → WasAdmitted self.now core → core_has self.now core number ≡ true }
+        ensures needed { self.now.final ≡ true → number < 53 → is_erratum_class number ≡ true
+            → (core : ℕ) → WasAdmitted self.now core → core_has self.now core number ≡ true → result ≡ true }
+    {
+        number < 53 && self.machine.enabled.contains(number)
+    }
+
+    /// The hwcaps: none before finalisation.
+    pub fn hwcaps(&self) -> HwSet
+        ensures { result ≡ self.now.hwcaps }
+    {
+        self.machine.hwcaps
+    }
+
+    /// The word of CTR_EL0 that the system had at finalisation, and before that the present one.
+    pub fn final_ctr(&self) -> u64
+        ensures { result ≡ (if self.now.final then self.now.ctr else word_at self.now.system CtrEl0) }
+    {
+        if self.machine.is_final {
+            self.machine.ctr
+        } else {
+            self.machine.system.word(SysReg::CtrEl0)
+        }
+    }
+
+    /// The vector lengths told to programs, bit 0 for 128 bits: none before finalisation.
+    pub fn vector_lengths(&self) -> u16
+        ensures { result ≡ self.now.lengths }
+    {
+        self.machine.lengths
+    }
+}
+
+// The states of so many cores of which only the boot core is admitted.
+fn states_at_first(alloc: Global, count: usize, boot: u32) -> Result<Vec<CoreState>, AllocError>
+    requires { boot < count }
+    ensures { IfOk result (λ states. states.items ≡ first_states count boot) }
+{
+    let mut states = Vec::from_elem(alloc, CoreState::Absent, count)?;
+    states[boot as usize] = CoreState::Admitted { late: false };
+    Ok(states)
+}

@@ -1,0 +1,28 @@
+//! The bring-up of a machine's cores: which cores are admitted, which are parked, and what the system may use.
+#![tactic(auto)]
+
+mod boot;
+mod cause;
+mod causes;
+mod core_state;
+mod event;
+mod gathering;
+mod halt;
+mod machine;
+mod moving;
+mod past;
+mod refused;
+mod reply;
+mod step_line;
+#[cfg(test)]
+mod tests;
+
+pub use boot::Boot;
+pub use cause::Cause;
+pub use core_state::CoreState;
+pub use event::Event;
+pub use halt::Halt;
+pub use past::Past;
+pub use refused::{BootRefused, StepRefused};
+pub use reply::Reply;
+pub use step_line::StepLine;

@@ -1,0 +1,306 @@
+ghost use Rattle.std.specs.Prelude.{◌≡◌, ◌==◌, ◌<◌, false, true, length, Some, None, Option, IfSome, Ok, Err, MatchResult, if◌then◌else◌};
+ghost use Rattle.armcaps_boot.specs.Answers as answers;
+ghost use Rattle.armcaps_boot.specs.Causes.{IsNumbered};
+ghost use Rattle.armcaps_boot.specs.Changes as changes;
+ghost use Rattle.armcaps_boot.specs.Facts.{Facts};
+ghost use Rattle.armcaps_boot.specs.First.{first_states, first_world};
+ghost use Rattle.armcaps_boot.specs.Machine.{world_of};
+ghost use Rattle.armcaps_tables.specs.Overriding.{AllFit};
+ghost use Rattle.armcaps_caps.specs.Set.{holds};
+ghost use Rattle.armcaps_boot.specs.Numbers.{numbers};
+ghost use Rattle.armcaps_boot.specs.World.{state_at};
+
+use crate::cause::Cause;
+use crate::causes::{early_cause, first_lack, stops_machine};
+use crate::core_state::CoreState;
+use crate::event::Event;
+use crate::gathering::{decided, first_in_flight, with_own};
+use crate::halt::Halt;
+use crate::moving::{admitted_after, past_of};
+use crate::refused::StepRefused;
+use crate::reply::Reply;
+use armcaps_caps::CapSet;
+use armcaps_enc::SysReg;
+use armcaps_hwcap::{HwSet, of_system};
+use armcaps_sanit::System;
+use armcaps_tables::{CoreRegs, Overrides};
+
+/// A machine that is brought up, as plain data.
+#[derive(Drop)]
+pub struct Machine {
+    pub(crate) cores: Vec<CoreRegs>,
+    pub(crate) boot: u32,
+    pub(crate) overrides: Overrides,
+    pub(crate) system: System,
+    pub(crate) states: Vec<CoreState>,
+    pub(crate) halted: Option<Halt>,
+    pub(crate) is_final: bool,
+    /// The local capabilities that the early cores have.
+    pub(crate) noted: CapSet,
+    pub(crate) enabled: CapSet,
+    pub(crate) hwcaps: HwSet,
+    /// The word of CTR_EL0 at finalisation.
+    pub(crate) ctr: u64,
+    /// The vector lengths that all early cores have.
+    pub(crate) kept: u16,
+    /// Those told to programs.
+    pub(crate) lengths: u16,
+}
+
+impl Machine {
+    /// A machine before its first step, whose cores have these states: only the boot core is admitted.
+    pub(crate) fn first(
+        cores: Vec<CoreRegs>,
+        boot: u32,
+        overrides: Overrides,
+        states: Vec<CoreState>,
+    ) -> Machine
+        requires within { boot < length cores.items }
+        requires states { states.items ≡ first_states (length cores.items) boot }
+        ensures first { world_of result ≡ first_world cores.items boot overrides }
+        ensures fit { AllFit overrides }
+    {
+        let core = cores[boot as usize];
+        let ctr = core.get(SysReg::CtrEl0);
+        let system = System::new(&core, &overrides);
+        let noted = with_own(CapSet::empty(), false, &overrides, &core, &core, ctr);
+        let enabled = with_own(CapSet::empty(), true, &overrides, &core, &core, ctr);
+        Machine {
+            cores,
+            boot,
+            overrides,
+            system,
+            states,
+            halted: None,
+            is_final: false,
+            noted,
+            enabled,
+            hwcaps: HwSet {
+                hwcap: 0,
+                hwcap2: 0,
+            },
+            ctr: 0,
+            kept: core.vls(),
+            lengths: 0,
+        }
+    }
+
+    /// Makes one step. After a refusal and a skipped step nothing has changed.
+    pub(crate) fn step(&mut self, event: Event) -> Result<Reply, StepRefused>
+        requires { Facts (world_of self.old) }
+        ensures answer { result ≡ answers.answer_of (world_of self.old) event }
+        ensures after { world_of self.new ≡ changes.world_after (world_of self.old) event result }
+    {
+        if let Some(halt) = self.halted {
+            return Err(StepRefused::Halted {
+                core: halt.core,
+                cause: halt.cause,
+            });
+        }
+        match event {
+            Event::Check(core) => self.check(core),
+            Event::Local(core) => self.local(core),
+            Event::Store(core) => self.store(core),
+            Event::Offline(core) => self.offline(core),
+            Event::Finalise => self.finalise(),
+        }
+    }
+
+    fn check(&mut self, core: u32) -> Result<Reply, StepRefused>
+        requires facts { Facts (world_of self.old) }
+        requires running { self.old.halted ≡ None }
+        ensures answer { result ≡ answers.live_answer (world_of self.old) (Event.Check core) }
+        ensures after { world_of self.new ≡ changes.world_after (world_of self.old) (Event.Check core) result }
+    {
+        let state = self.state_of(core)?;
+        match state {
+            CoreState::Absent | CoreState::Offline { .. } => match self.cause_at_check(core) {
+                None => {
+                    self.states[core as usize] = CoreState::Checked(past_of(state));
+                    Ok(Reply::Done)
+                }
+                Some(cause) => Ok(self.hold_back(core, cause)),
+            },
+            CoreState::Parked(_) => Ok(Reply::Skipped),
+            _ => Err(StepRefused::OutOfTurn { state }),
+        }
+    }
+
+    fn local(&mut self, core: u32) -> Result<Reply, StepRefused>
+        requires facts { Facts (world_of self.old) }
+        requires running { self.old.halted ≡ None }
+        ensures answer { result ≡ answers.live_answer (world_of self.old) (Event.Local core) }
+        ensures after { world_of self.new ≡ changes.world_after (world_of self.old) (Event.Local core) result }
+    {
+        let state = self.state_of(core)?;
+        match state {
+            CoreState::Checked(past) => match self.cause_at_local(core) {
+                None => {
+                    self.noted = self.noted_with(core);
+                    self.states[core as usize] = CoreState::Updated(past);
+                    Ok(Reply::Done)
+                }
+                Some(cause) => Ok(self.hold_back(core, cause)),
+            },
+            CoreState::Parked(_) => Ok(Reply::Skipped),
+            _ => Err(StepRefused::OutOfTurn { state }),
+        }
+    }
+
+    fn store(&mut self, core: u32) -> Result<Reply, StepRefused>
+        requires facts { Facts (world_of self.old) }
+        requires running { self.old.halted ≡ None }
+        ensures answer { result ≡ answers.live_answer (world_of self.old) (Event.Store core) }
+        ensures after { world_of self.new ≡ changes.world_after (world_of self.old) (Event.Store core) result }
+    {
+        let state = self.state_of(core)?;
+        match state {
+            CoreState::Updated(past) => {
+                let regs = self.cores[core as usize];
+                self.system.admit(&regs);
+                if !self.is_final {
+                    self.kept &= regs.vls();
+                }
+                self.states[core as usize] = admitted_after(self.is_final, past);
+                Ok(Reply::Done)
+            }
+            CoreState::Parked(_) => Ok(Reply::Skipped),
+            _ => Err(StepRefused::OutOfTurn { state }),
+        }
+    }
+
+    fn offline(&mut self, core: u32) -> Result<Reply, StepRefused>
+        requires facts { Facts (world_of self.old) }
+        requires running { self.old.halted ≡ None }
+        ensures answer { result ≡ answers.live_answer (world_of self.old) (Event.Offline core) }
+        ensures after { world_of self.new ≡ changes.world_after (world_of self.old) (Event.Offline core) result }
+    {
+        let state = self.state_of(core)?;
+        match state {
+            CoreState::Admitted { late } => {
+                self.states[core as usize] = CoreState::Offline { late };
+                Ok(Reply::Done)
+            }
+            CoreState::Parked(_) => Ok(Reply::Skipped),
+            _ => Err(StepRefused::OutOfTurn { state }),
+        }
+    }
+
+    fn finalise(&mut self) -> Result<Reply, StepRefused>
+        requires facts { Facts (world_of self.old) }
+        requires running { self.old.halted ≡ None }
+        ensures answer { result ≡ answers.live_answer (world_of self.old) Event.Finalise }
+        ensures after { world_of self.new ≡ changes.world_after (world_of self.old) Event.Finalise result }
+    {
+        if self.is_final {
+            return Err(StepRefused::AlreadyFinal);
+        }
+        if let Some(core) = first_in_flight(&self.states) {
+            return Err(StepRefused::InFlight { core });
+        }
+        self.enabled = decided(&self.enabled, &self.noted, &self.system);
+        self.hwcaps = of_system(&self.system);
+        self.ctr = self.system.word(SysReg::CtrEl0);
+        self.lengths = if self.enabled.contains(36) {
+            self.kept
+        } else {
+            0
+        };
+        self.is_final = true;
+        Ok(Reply::Done)
+    }
+
+    // The state of a core of which a step is asked.
+    fn state_of(&self, core: u32) -> Result<CoreState, StepRefused>
+        requires { Facts (world_of self.now) }
+        ensures { MatchResult result
+            (λ state. (core < length self.now.cores.items) × (state ≡ state_at self.now.states.items core)
+            × ((answer : answers.Answer) → answers.numbered (world_of self.now) core answer ≡ answer))
+            (λ refused. (answer : answers.Answer) → answers.numbered (world_of self.now) core answer ≡ Err refused) }
+    {
+        if core as usize >= self.cores.len() {
+            return Err(StepRefused::NoCore);
+        }
+        if core == self.boot {
+            return Err(StepRefused::IsBootCore);
+        }
+        Ok(self.states[core as usize])
+    }
+
+    fn cause_at_check(&self, core: u32) -> Option<Cause>
+        requires facts { Facts (world_of self.now) }
+        requires within { core < length self.now.cores.items }
+        ensures cause { result ≡ answers.cause_at_check (world_of self.now) core }
+        ensures numbered { IfSome result IsNumbered }
+    {
+        let ctr = self.system.word(SysReg::CtrEl0);
+        early_cause(
+            &self.enabled,
+            &self.overrides,
+            &self.cores[self.boot as usize],
+            &self.cores[core as usize],
+            ctr,
+        )
+    }
+
+    fn cause_at_local(&self, core: u32) -> Option<Cause>
+        requires facts { Facts (world_of self.now) }
+        requires within { core < length self.now.cores.items }
+        ensures cause { result ≡ answers.cause_at_local (world_of self.now) core }
+        ensures numbered { IfSome result IsNumbered }
+    {
+        if !self.is_final {
+            return None;
+        }
+        let ctr = self.system.word(SysReg::CtrEl0);
+        let boot = &self.cores[self.boot as usize];
+        let regs = &self.cores[core as usize];
+        first_lack(
+            &self.enabled,
+            &self.hwcaps,
+            self.lengths,
+            &self.overrides,
+            boot,
+            regs,
+            ctr,
+        )
+    }
+
+    // The capabilities noted once a core shows its own: after finalisation none is noted any more.
+    fn noted_with(&self, core: u32) -> CapSet
+        requires facts { Facts (world_of self.now) }
+        requires within { core < length self.now.cores.items }
+        ensures { numbers 53 (holds result) ≡ (if self.now.is_final then (world_of self.now).noted else changes.noted_with (world_of self.now) core) }
+    {
+        if self.is_final {
+            return self.noted;
+        }
+        let ctr = self.system.word(SysReg::CtrEl0);
+        let boot = &self.cores[self.boot as usize];
+        with_own(
+            self.noted,
+            false,
+            &self.overrides,
+            boot,
+            &self.cores[core as usize],
+            ctr,
+        )
+    }
+
+    // Parks a core, or lets it stop the machine.
+    fn hold_back(&mut self, core: u32, cause: Cause) -> Reply
+        requires within { core < length self.old.states.items }
+        requires numbered { IsNumbered cause }
+        ensures answer { Ok result ≡ answers.judged (Some cause) }
+        ensures after { world_of self.new ≡ changes.held_world (world_of self.old) core result }
+    {
+        if stops_machine(cause) {
+            self.states[core as usize] = CoreState::Panicked(cause);
+            self.halted = Some(Halt { core, cause });
+            Reply::Panicked(cause)
+        } else {
+            self.states[core as usize] = CoreState::Parked(cause);
+            Reply::Parked(cause)
+        }
+    }
+}

@@ -1,0 +1,202 @@
+ghost use Rattle.std.specs.Prelude.{◌≡◌, ◌≤◌, ℕ, None, length};
+ghost use Rattle.armcaps_enc.specs.declared.register.SysReg.TheVariants.{CtrEl0};
+ghost use Rattle.armcaps_tables.specs.Overriding.{override_of};
+
+use super::*;
+use armcaps_enc::SysReg;
+use armcaps_tables::{CoreRegs, Overrides};
+use std::alloc::Global;
+use std::process::Abort;
+use std::test::Fail;
+
+// No overrides: so none of a field of CTR_EL0.
+fn without_overrides() -> Overrides
+    ensures { (index : ℕ) → override_of result CtrEl0 index ≡ None }
+{
+    Overrides::none()
+}
+
+// A machine of these cores without overrides, whose boot core is core 0.
+fn machine(rt: &impl Abort, alloc: Global, cores: &[CoreRegs]) -> Result<Boot, Fail>
+    requires { length cores.now ≤ 512 }
+{
+    let cores = Vec::from_slice(alloc, cores)?;
+    match Boot::new(alloc, cores, 0, without_overrides()) {
+        Ok(boot) => Ok(boot),
+        Err(refused) => {
+            assert_eq!(rt; refused, BootRefused::Memory);
+            Err(Fail::from("no memory"))
+        }
+    }
+}
+
+// Makes the steps, each of which is to be answered as it says.
+fn make(rt: &impl Abort, boot: &mut Boot, steps: &[(Event, Result<Reply, StepRefused>)]) {
+    for (event, answer) in steps {
+        assert_eq!(rt; boot.step(*event), *answer, "{event:?}");
+    }
+}
+
+fn core(reg: SysReg, word: u64) -> CoreRegs {
+    let mut core = CoreRegs::zero();
+    core.set(reg, word);
+    core
+}
+
+const DONE: Result<Reply, StepRefused> = Ok(Reply::Done);
+
+#[test]
+fn refusals_in_their_order(rt: HostRuntime) -> Result<(), Fail> {
+    let mut boot = machine(&rt, rt.alloc(), &[CoreRegs::zero(), CoreRegs::zero()])?;
+    let early = CoreState::Admitted { late: false };
+    let steps = [
+        (Event::Check(5), Err(StepRefused::NoCore)),
+        (Event::Check(0), Err(StepRefused::IsBootCore)),
+        (
+            Event::Local(1),
+            Err(StepRefused::OutOfTurn {
+                state: CoreState::Absent,
+            }),
+        ),
+        (Event::Check(1), DONE),
+        (Event::Finalise, Err(StepRefused::InFlight { core: 1 })),
+        (Event::Local(1), DONE),
+        (Event::Store(1), DONE),
+        (Event::Finalise, DONE),
+        (Event::Finalise, Err(StepRefused::AlreadyFinal)),
+        (
+            Event::Check(1),
+            Err(StepRefused::OutOfTurn { state: early }),
+        ),
+    ];
+    make(&rt, &mut boot, &steps);
+    assert_eq!(rt; boot.state(1), Some(early));
+    assert_eq!(rt; boot.state(2), None);
+    assert_eq!(rt; boot.count(), 2);
+    assert_eq!(rt; boot.boot_core(), 0);
+    Ok(())
+}
+
+// What a core that differs from the boot core in one register is answered at its check.
+#[test]
+fn cores_at_their_check(rt: HostRuntime) -> Result<(), Fail> {
+    for (reg, boot, other, reply) in [
+        (
+            SysReg::IdAa64Pfr1El1,
+            0x200,
+            0,
+            Reply::Panicked(Cause::Cap(5)),
+        ),
+        (
+            SysReg::IdAa64Mmfr0El1,
+            0x20,
+            0,
+            Reply::Panicked(Cause::Asid),
+        ),
+        (
+            SysReg::IdAa64Pfr1El1,
+            0x300,
+            0x200,
+            Reply::Parked(Cause::Cap(6)),
+        ),
+        (
+            SysReg::IdAa64Isar1El1,
+            0x10,
+            0x100,
+            Reply::Parked(Cause::Cap(2)),
+        ),
+    ] {
+        let mut machine = machine(&rt, rt.alloc(), &[core(reg, boot), core(reg, other)])?;
+        make(&rt, &mut machine, &[(Event::Check(1), Ok(reply))]);
+        assert_eq!(rt; machine.system().word(reg), boot);
+    }
+    Ok(())
+}
+
+// What such a core is answered after finalisation.
+#[test]
+fn cores_after_finalisation(rt: HostRuntime) -> Result<(), Fail> {
+    for (reg, boot, other, reply) in [
+        (
+            SysReg::IdAa64Isar0El1,
+            0x1021_1120,
+            0x11120,
+            Reply::Parked(Cause::Cap(7)),
+        ),
+        (
+            SysReg::CtrEl0,
+            0x8444_8004,
+            0x8443_8004,
+            Reply::Parked(Cause::Cap(42)),
+        ),
+        (SysReg::CtrEl0, 0x8444_c004, 0x8444_8004, Reply::Done),
+        (
+            SysReg::IdAa64Isar0El1,
+            0x11120,
+            0x11020,
+            Reply::Parked(Cause::Hwcap(4)),
+        ),
+        (
+            SysReg::MidrEl1,
+            0x410f_d092,
+            0x410f_d034,
+            Reply::Parked(Cause::Cap(43)),
+        ),
+    ] {
+        let mut machine = machine(&rt, rt.alloc(), &[core(reg, boot), core(reg, other)])?;
+        let steps = [
+            (Event::Finalise, DONE),
+            (Event::Check(1), DONE),
+            (Event::Local(1), Ok(reply)),
+        ];
+        make(&rt, &mut machine, &steps);
+    }
+    Ok(())
+}
+
+// Cores with SVE whose vector lengths differ, and one that goes and comes back.
+#[test]
+fn vector_lengths_and_return(rt: HostRuntime) -> Result<(), Fail> {
+    let mut cores = [core(SysReg::IdAa64Pfr0El1, 0x1_0000_0000); 4];
+    cores[0].set_vls(0x3);
+    cores[1].set_vls(0x7);
+    cores[2].set_vls(0x1);
+    cores[3].set_vls(0xb);
+    let mut boot = machine(&rt, rt.alloc(), &cores)?;
+    let steps = [
+        (Event::Check(1), DONE),
+        (Event::Local(1), DONE),
+        (Event::Store(1), DONE),
+        (Event::Finalise, DONE),
+        (Event::Check(2), DONE),
+        (Event::Local(2), Ok(Reply::Parked(Cause::Vector(2)))),
+        (Event::Offline(2), Ok(Reply::Skipped)),
+        (Event::Check(3), DONE),
+        (Event::Local(3), DONE),
+        (Event::Store(3), DONE),
+        (Event::Offline(1), DONE),
+        (Event::Check(1), DONE),
+        (Event::Local(1), DONE),
+        (Event::Store(1), DONE),
+        (Event::Offline(3), DONE),
+    ];
+    make(&rt, &mut boot, &steps);
+    assert_eq!(rt; boot.vector_lengths(), 0x3);
+    assert!(rt; boot.enabled(36) && !boot.enabled(37) && !boot.enabled(53));
+    assert_eq!(rt; boot.state(1), Some(CoreState::Admitted { late: false }));
+    assert_eq!(rt; boot.state(3), Some(CoreState::Offline { late: true }));
+    Ok(())
+}
+
+// A boot core that there isn't.
+#[test]
+fn no_boot_core(rt: HostRuntime) -> Result<(), Fail> {
+    let cores = Vec::from_slice(rt.alloc(), &[CoreRegs::zero(), CoreRegs::zero()])?;
+    match Boot::new(rt.alloc(), cores, 2, without_overrides()) {
+        Ok(_) => Err(Fail::from("made")),
+        Err(refused) => {
+            assert_eq!(rt; refused, BootRefused::NoBootCore);
+            Ok(())
+        }
+    }
+}
