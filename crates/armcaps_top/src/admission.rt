@@ -8,9 +8,9 @@ ghost use Rattle.armcaps_tables.specs.Overriding.{FieldOverrides};
 ghost use Rattle.armcaps_early_text.specs.Document.{reading_of};
 ghost use Rattle.armcaps_top.specs.Admission.{admitted_cores, brings_up, is_finalise, role_of};
 
+use armcaps_early_text::{Machine, StepLine};
 use armcaps_sanit::System;
 use armcaps_tables::CoreRegs;
-use armcaps_early_text::{Machine, StepLine};
 use std::alloc::{AllocError, Global};
 
 /// How a core of a machine comes up.

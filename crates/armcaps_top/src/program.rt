@@ -12,8 +12,8 @@ use crate::ending::Ending;
 use crate::refusal::{INPUT_LIMIT, Refusal};
 use crate::report::report;
 use crate::telling::tell;
-use armcaps_io::{InFault, Sink, Source, read_to_limit, write_whole};
 use armcaps_early_text::{Machine, TextRefused, laws};
+use armcaps_io::{InFault, Sink, Source, read_to_limit, write_whole};
 use std::alloc::{AllocError, Global};
 
 fn is_form(words: &[String]) -> bool

@@ -18,10 +18,10 @@ ghost use Rattle.armcaps_top.specs.Report.{core_line, register_line, user_line, 
 
 use crate::admission::{Role, roles, system};
 use crate::varying::varies_somewhere;
+use armcaps_early_text::Machine;
 use armcaps_enc::SysReg;
 use armcaps_sanit::{Note, System, note};
 use armcaps_tables::{CoreRegs, FieldRow, Overrides, count, row};
-use armcaps_early_text::Machine;
 use std::alloc::{AllocError, Global};
 use std::fmt::Write;
 

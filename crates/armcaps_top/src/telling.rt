@@ -11,8 +11,8 @@ ghost use Rattle.armcaps_top.specs.Telling.{Tells};
 
 use crate::ending::Ending;
 use crate::refusal::{INPUT_LIMIT, Refusal};
-use armcaps_io::{Sink, write_whole};
 use armcaps_early_text::TextKind;
+use armcaps_io::{Sink, write_whole};
 use arrayvec::ArrayString;
 use itoa::Buffer;
 

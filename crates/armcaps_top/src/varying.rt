@@ -9,10 +9,10 @@ ghost use Rattle.armcaps_early_text.specs.Document.{reading_of};
 ghost use Rattle.armcaps_top.specs.Admission.{admitted_cores, is_admitted, role_of};
 
 use crate::admission::Role;
+use armcaps_early_text::Machine;
 use armcaps_enc::SysReg;
 use armcaps_sanit::varies;
 use armcaps_tables::CoreRegs;
-use armcaps_early_text::Machine;
 
 // Whether the core is admitted, and a strict field of the register differs between it and the boot core.
 fn is_admitted_and_varies(boot: &CoreRegs, role: Role, core: &CoreRegs, register: SysReg) -> bool
