@@ -1,12 +1,12 @@
 -- What the code asks of what it keeps is what the definitions say.
-use Rattle.std.proofs.Common.{◌≡◌, ◌<◌, ℕ, Bool, true, false, not, cond, ◌&&◌, ◌||◌, List, length, Option, Some, None, refl, sym, ◌∙◌, ap}
+use Rattle.std.proofs.Common.{◌≡◌, ◌<◌, ℕ, Bool, true, false, not, cond, ◌&&◌, ◌||◌, List, length, Option, Some, None, refl, sym, ◌∙◌, ap, subst}
 use Rattle.std.specs.Prelude.{nat_lt, slice_index_or}
 use Rattle.std.proofs.lemmas.List.{get_or_default}
 use Rattle.std.specs.List.{list_any}
 use Rattle.std.specs.Option.{option_or, option_map}
 use Rattle.armcaps_enc.specs.declared.register.SysReg.TheVariants.{CtrEl0}
 use Rattle.armcaps_tables.specs.Core.{Core, core_word, word_at}
-use Rattle.armcaps_sanit.specs.System.{system_words}
+use Rattle.armcaps_sanit.specs.System.{IsSystemOf}
 use Rattle.armcaps_caps.specs.Capabilities.{conflicts, core_has_capability, is_boot_scope, is_local_scope, system_has_capability}
 use Rattle.armcaps_caps.specs.Set.{holds}
 use Rattle.armcaps_hwcap.specs.declared.hw_set.HwSet.{HwSet}
@@ -20,6 +20,7 @@ use Rattle.armcaps_boot.specs.Numbers.{first_of, is_in, numbers}
 use Rattle.armcaps_boot.specs.Scopes.{conflict_with, enabled_by, held_at_check, lack_of}
 use Rattle.armcaps_boot.specs.States.{is_early, is_updated}
 use Rattle.armcaps_boot.specs.World.{World, core_at, state_at, boot_of, early_cores}
+use Rattle.armcaps_caps.proofs.Shared.{system_has_capability-over}
 use Rattle.armcaps_boot.proofs.CacheType.{early_cache_type, late_cache_type, is_not_boot_42}
 use Rattle.armcaps_boot.proofs.ChosenCores.{chosen-same}
 use Rattle.armcaps_boot.proofs.EarlyCores.{boot_enabled, local_enabled, system_enabled}
@@ -131,7 +132,7 @@ decided-enabled w f final none enabled noted enabled_is noted_is n within = by (
       ∙ sym (local_enabled w.overrides (boot_of w) (early_cores w) n boot local))
   by false boot false local =
       rw (boot, local)
-      (ap (λ (words : List ℕ). system_has_capability words n) (f.system.words ∙ ap (system_words w.overrides) (all_early w f final))
+      (system_has_capability-over w.overrides (early_cores w) w.system n (subst (λ (l : List Core). IsSystemOf w.overrides l w.system) (all_early w f final) f.system)
       ∙ sym (system_enabled w.overrides (boot_of w) (early_cores w) n boot local))
 
 -- an answer that is no `Some`

@@ -5,26 +5,13 @@ use Rattle.armcaps_enc.specs.declared.register.SysReg.TheVariants.{CtrEl0}
 use Rattle.armcaps_tables.specs.Core.{Core, core_word, word_at}
 use Rattle.armcaps_tables.specs.Overriding.{FieldOverrides, override_of, AllFit}
 use Rattle.armcaps_sanit.specs.System.{IsSystemOf, system_words}
-use Rattle.armcaps_caps.specs.Capabilities.{core_has_capability, system_has_capability, is_boot_scope, is_local_scope, is_system_scope, is_permitted, is_optional, is_panic, is_erratum_class}
+use Rattle.armcaps_caps.specs.Capabilities.{core_has_capability, is_boot_scope, is_local_scope, is_system_scope, is_permitted, is_optional, is_panic, is_erratum_class}
 use Rattle.armcaps_caps.specs.Rows.{capability_rows}
 use Rattle.armcaps_caps.proofs.Classes.{number_holds}
 use Rattle.armcaps_caps.proofs.CacheType.{cache_type_compares}
-use Rattle.armcaps_caps.proofs.Shared.{system_has_capability-each}
-use Rattle.armcaps_hwcap.specs.Hwcaps.{core_has_hwcap, system_has_hwcap}
-use Rattle.armcaps_hwcap.proofs.Shown.{system_has_hwcap-each}
 
 system_of : (o : FieldOverrides) (before after : List Core) (core : Core) → AllFit o → IsSystemOf o (before ++ core ∷ after) (system_words o (before ++ core ∷ after))
 system_of o before after core fit = record { fit = fit; some = omega (arith, length-append before (core ∷ after)); words = refl }
-
-pub each_has_capability : (o : FieldOverrides) (boot core : Core) (ctr number : ℕ) (before after : List Core) → AllFit o
-    → system_has_capability (system_words o (before ++ core ∷ after)) number ≡ true → core_has_capability o boot ctr core number ≡ true
-each_has_capability o boot core ctr number before after fit has =
-    system_has_capability-each o before after (system_words o (before ++ core ∷ after)) boot core ctr number (system_of o before after core fit) has
-
-pub each_has_hwcap : (o : FieldOverrides) (core : Core) (index : ℕ) (before after : List Core) → AllFit o
-    → system_has_hwcap (system_words o (before ++ core ∷ after)) index ≡ true → core_has_hwcap o core index ≡ true
-each_has_hwcap o core index before after fit has =
-    system_has_hwcap-each o before after (system_words o (before ++ core ∷ after)) core index (system_of o before after core fit) has
 
 pub cache_type_stays : (o : FieldOverrides) (boot core : Core) (before after : List Core) → AllFit o → ((index : ℕ) → override_of o CtrEl0 index ≡ None)
     → list_any (λ c. core_has_capability o boot (core_word boot CtrEl0) c 42) (before ++ boot ∷ after) ≡ false

@@ -4,14 +4,15 @@ use Rattle.std.specs.List.{list_any, list_all}
 use Rattle.armcaps_enc.specs.declared.register.SysReg.TheVariants.{CtrEl0}
 use Rattle.armcaps_tables.specs.Core.{Core, core_word}
 use Rattle.armcaps_tables.specs.Overriding.{FieldOverrides, AllFit}
-use Rattle.armcaps_sanit.specs.System.{system_words}
-use Rattle.armcaps_caps.specs.Capabilities.{system_has_capability, conflicts, is_boot_scope, is_local_scope, is_optional, is_permitted}
-use Rattle.armcaps_hwcap.specs.Hwcaps.{core_has_hwcap, system_has_hwcap}
+use Rattle.armcaps_caps.specs.Capabilities.{capability_over, conflicts, is_boot_scope, is_local_scope, is_optional, is_permitted}
+use Rattle.armcaps_hwcap.specs.Hwcaps.{core_has_hwcap, hwcap_over}
 use Rattle.armcaps_boot.specs.Causes.{has_capability, capability_enabled, hwcap_advertised, is_system_length, has_length, first_conflict, first_lack, late_cause}
 use Rattle.armcaps_boot.specs.Numbers.{first_of}
 use Rattle.armcaps_boot.proofs.ChosenCores.{Among, any-among, all-among}
 use Rattle.armcaps_boot.proofs.FirstNumbers.{first_of-none}
-use Rattle.armcaps_boot.proofs.Below.{each_has_capability, each_has_hwcap, system_scope_else, system_alone, local_alone}
+use Rattle.armcaps_caps.proofs.Shared.{capability_over-each}
+use Rattle.armcaps_hwcap.proofs.Shown.{hwcap_over-each}
+use Rattle.armcaps_boot.proofs.Below.{system_scope_else, system_alone, local_alone}
 use Rattle.armcaps_caps.proofs.Classes.{conflicts-both, conflicts-neither, conflicts-lacking, conflicts-bringing}
 
 pub boot_enabled : (o : FieldOverrides) (boot : Core) (early : List Core) (n : ℕ) → is_boot_scope n ≡ true
@@ -25,7 +26,7 @@ unfolding capability_enabled
 local_enabled o boot early n other scope = rw (other, scope)
 
 pub system_enabled : (o : FieldOverrides) (boot : Core) (early : List Core) (n : ℕ) → is_boot_scope n ≡ false → is_local_scope n ≡ false
-    → capability_enabled o boot early n ≡ system_has_capability (system_words o early) n
+    → capability_enabled o boot early n ≡ capability_over o early n
 unfolding capability_enabled
 system_enabled o boot early n other scope = rw (other, scope)
 
@@ -58,8 +59,8 @@ early_no_conflict o boot early core n fit among within = on (is_boot_scope n) re
   system other scope =
       let systems = system_scope_else n within other scope in
       fits_system n _ _ ((system_alone n within systems).permitted)
-      (λ enabled. each_has_capability o boot core (core_word boot CtrEl0) n among.before among.after fit
-      (ap (λ (l : List Core). system_has_capability (system_words o l) n) (sym among.is) ∙ sym (system_enabled o boot early n other scope) ∙ enabled))
+      (λ enabled. capability_over-each o among.before among.after boot core (core_word boot CtrEl0) n
+      (ap (λ (l : List Core). capability_over o l n) (sym among.is) ∙ sym (system_enabled o boot early n other scope) ∙ enabled))
 
   on : (b : Bool) → is_boot_scope n ≡ b → (l : Bool) → is_local_scope n ≡ l → (not (is_boot_scope n) && conflicts n (capability_enabled o boot early n) (has_capability o boot core n)) ≡ false
   on true is l local_is = rw is
@@ -73,8 +74,8 @@ early_no_lack o early core index fit among within = on (hwcap_advertised o early
   on : (b : Bool) → hwcap_advertised o early index ≡ b → (hwcap_advertised o early index && not (core_has_hwcap o core index)) ≡ false
   on false is = rw is
   on true is =
-      let has : core_has_hwcap o core index ≡ true = each_has_hwcap o core index among.before among.after fit
-      (ap (λ (l : List Core). system_has_hwcap (system_words o l) index) (sym among.is) ∙ is) in
+      let has : core_has_hwcap o core index ≡ true = hwcap_over-each o among.before among.after core index
+      (ap (λ (l : List Core). hwcap_over o l index) (sym among.is) ∙ is) in
       rw (is, has)
 
 -- an early core has each vector length that is told

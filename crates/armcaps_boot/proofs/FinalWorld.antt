@@ -1,12 +1,12 @@
 -- The machine that the code makes of one that is finalised.
-use Rattle.std.proofs.Common.{◌≡◌, ◌<◌, ℕ, Bool, true, false, cond, List, None, ◌∙◌, ap, lit<}
+use Rattle.std.proofs.Common.{◌≡◌, ◌<◌, ℕ, Bool, true, false, cond, List, None, ◌∙◌, ap, subst, lit<}
 use Rattle.armcaps_enc.specs.declared.register.SysReg.TheVariants.{CtrEl0}
-use Rattle.armcaps_tables.specs.Core.{word_at}
-use Rattle.armcaps_sanit.specs.System.{system_words}
+use Rattle.armcaps_tables.specs.Core.{Core, word_at}
+use Rattle.armcaps_sanit.specs.System.{IsSystemOf}
 use Rattle.armcaps_caps.specs.Set.{holds}
 use Rattle.armcaps_hwcap.specs.declared.hw_set.HwSet.{HwSet}
 use Rattle.armcaps_hwcap.specs.Hwcaps.{system_has_hwcap}
-use Rattle.armcaps_hwcap.specs.Words.{hwcap_word, hwcap2_word}
+use Rattle.armcaps_hwcap.specs.Words.{IsAdvertised, hwcap_word, hwcap2_word}
 use Rattle.armcaps_boot.specs.Answers.{first_in_flight}
 use Rattle.armcaps_boot.specs.Causes.{capability_enabled, hwcap_advertised}
 use Rattle.armcaps_boot.specs.Changes.{final_world}
@@ -14,6 +14,7 @@ use Rattle.armcaps_boot.specs.Facts.{Facts}
 use Rattle.armcaps_boot.specs.Numbers.{numbers}
 use Rattle.armcaps_boot.specs.Scopes.{enabled_by}
 use Rattle.armcaps_boot.specs.World.{World, boot_of, early_cores}
+use Rattle.armcaps_hwcap.proofs.Shown.{is_advertised}
 use Rattle.armcaps_boot.proofs.Asked.{decided-enabled}
 use Rattle.armcaps_boot.proofs.Finalising.{all_early}
 use Rattle.armcaps_boot.proofs.FirstNumbers.{numbers-same}
@@ -35,10 +36,10 @@ pub final_world-same : (w : World) (f : Facts w) → w.final ≡ false → first
 final_world-same w f final none enabled noted more enabled_is noted_is holds_more hwcaps first second ctr ctr_is lengths lengths_are =
     ap (λ (x : List Bool). finalled w x hwcaps ctr lengths) (numbers-same _ _ 53 decided)
     ∙ ap (λ (x : ℕ). finalled w (numbers 53 (capability_enabled w.overrides (boot_of w) (early_cores w))) (record { hwcap = x; hwcap2 = hwcaps.hwcap2 }) ctr lengths)
-    (first ∙ ap (λ (words : List ℕ). hwcap_word (system_has_hwcap words)) words)
+    shown.hwcap
     ∙ ap (λ (x : ℕ). finalled w (numbers 53 (capability_enabled w.overrides (boot_of w) (early_cores w)))
     (record { hwcap = hwcap_word (hwcap_advertised w.overrides (early_cores w)); hwcap2 = x }) ctr lengths)
-    (second ∙ ap (λ (words : List ℕ). hwcap2_word (system_has_hwcap words)) words)
+    shown.hwcap2
     ∙ ap (λ (x : ℕ). finalled w (numbers 53 (capability_enabled w.overrides (boot_of w) (early_cores w)))
     (record { hwcap = hwcap_word (hwcap_advertised w.overrides (early_cores w)); hwcap2 = hwcap2_word (hwcap_advertised w.overrides (early_cores w)) }) x lengths) ctr_is
     ∙ ap (λ (x : ℕ). finalled w (numbers 53 (capability_enabled w.overrides (boot_of w) (early_cores w)))
@@ -48,5 +49,7 @@ final_world-same w f final none enabled noted more enabled_is noted_is holds_mor
     decided : (n : ℕ) → n < 53 → holds more n ≡ capability_enabled w.overrides (boot_of w) (early_cores w) n
     decided n within = holds_more n within ∙ decided-enabled w f final none enabled noted enabled_is noted_is n within
 
-    words : w.system ≡ system_words w.overrides (early_cores w)
-    words = f.system.words ∙ ap (system_words w.overrides) (all_early w f final)
+    shown : IsAdvertised w.overrides (early_cores w) hwcaps
+    shown =
+        is_advertised w.overrides (early_cores w) w.system hwcaps
+        (subst (λ (l : List Core). IsSystemOf w.overrides l w.system) (all_early w f final) f.system) first second

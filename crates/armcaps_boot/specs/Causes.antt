@@ -8,9 +8,8 @@ use Rattle.armcaps_bits.specs.Field.{unsigned_field}
 use Rattle.armcaps_enc.specs.declared.register.SysReg.TheVariants.{IdAa64Mmfr0El1, CtrEl0}
 use Rattle.armcaps_tables.specs.Core.{Core, core_word}
 use Rattle.armcaps_tables.specs.Overriding.{FieldOverrides}
-use Rattle.armcaps_sanit.specs.System.{system_words}
-use Rattle.armcaps_caps.specs.Capabilities.{core_has_capability, system_has_capability, conflicts, is_boot_scope, is_local_scope, is_panic}
-use Rattle.armcaps_hwcap.specs.Hwcaps.{core_has_hwcap, system_has_hwcap}
+use Rattle.armcaps_caps.specs.Capabilities.{core_has_capability, capability_over, conflicts, is_boot_scope, is_local_scope, is_panic}
+use Rattle.armcaps_hwcap.specs.Hwcaps.{core_has_hwcap, hwcap_over}
 use Rattle.armcaps_boot.specs.declared.cause.Cause.{Cause}
 use Rattle.armcaps_boot.specs.declared.cause.Cause.TheVariants.{Asid, Cap, Hwcap, Vector}
 use Rattle.armcaps_boot.specs.Numbers.{first_of}
@@ -29,20 +28,24 @@ unfoldable pub capability_enabled : FieldOverrides → Core → List Core → �
 capability_enabled overrides boot early number =
     if is_boot_scope number then has_capability overrides boot boot number
     else if is_local_scope number then list_any (λ core. has_capability overrides boot core number) early
-    else system_has_capability (system_words overrides early) number
+    else capability_over overrides early number
 
 -- whether a hwcap is advertised: by what all early cores have in common
 abbrev pub hwcap_advertised : FieldOverrides → List Core → ℕ → Bool
-hwcap_advertised overrides early index = system_has_hwcap (system_words overrides early) index
+hwcap_advertised overrides early index = hwcap_over overrides early index
 
 -- whether vectors of `length` times 128 bits are among some lengths, where bit 0 stands for 1: asked of 1 to 16 alone
 abbrev pub has_length : ℕ → ℕ → Bool
 has_length lengths length = bit_at lengths (length - 1) == 1
 
+-- the number of the capability SVE
+abbrev pub sve_capability : ℕ
+sve_capability = 36
+
 -- whether vectors of `length` times 128 bits are told to programs: where SVE is enabled and every early core has them
 abbrev pub is_system_length : FieldOverrides → Core → List Core → ℕ → Bool
 is_system_length overrides boot early length =
-    capability_enabled overrides boot early 36 && list_all (λ core. has_length core.lengths length) early
+    capability_enabled overrides boot early sve_capability && list_all (λ core. has_length core.lengths length) early
 
 -- the first capability of those in a scope with which a core is in conflict
 abbrev pub first_conflict : (ℕ → Bool) → (ℕ → Bool) → (ℕ → Bool) → Option ℕ

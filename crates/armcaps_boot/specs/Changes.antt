@@ -14,7 +14,7 @@ use Rattle.armcaps_boot.specs.declared.past.Past.TheVariants.{Never, Early, Late
 use Rattle.armcaps_boot.specs.declared.reply.Reply.{Reply}
 use Rattle.armcaps_boot.specs.declared.reply.Reply.TheVariants.{Done, Parked, Panicked}
 use Rattle.armcaps_boot.specs.Answers.{Answer}
-use Rattle.armcaps_boot.specs.Causes.{has_capability, capability_enabled, hwcap_advertised}
+use Rattle.armcaps_boot.specs.Causes.{has_capability, capability_enabled, hwcap_advertised, sve_capability}
 use Rattle.armcaps_boot.specs.Numbers.{numbers, is_in}
 use Rattle.armcaps_boot.specs.States.{past_of}
 use Rattle.armcaps_boot.specs.World.{World, core_at, state_at, boot_of, early_cores}
@@ -74,7 +74,7 @@ final_world world = record world {
     hwcap2 = hwcap2_word (hwcap_advertised world.overrides (early_cores world));
   };
   ctr = word_at world.system CtrEl0;
-  lengths = if capability_enabled world.overrides (boot_of world) (early_cores world) 36 then world.kept else 0;
+  lengths = if capability_enabled world.overrides (boot_of world) (early_cores world) sve_capability then world.kept else 0;
 }
 
 -- a step that is done
