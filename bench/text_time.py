@@ -14,7 +14,7 @@ import tempfile
 import time
 
 TEXT = 1_048_576
-RUNS = 5
+RUNS = 40
 MOST = 2.2
 LEAST = 0.004
 CORES = "core 0\ncore 1\n"
