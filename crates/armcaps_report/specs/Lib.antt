@@ -1,0 +1,5 @@
+-- What the contracts of this crate cite.
+pub mod Settled
+pub mod Texts
+pub mod Lines
+pub mod Report

@@ -1,0 +1,76 @@
+-- The report of a machine that was brought up: its groups of lines, one after the other. The format is this project's own.
+use Rattle.std.specs.Prelude.{ℕ, Bool, List, [], ◌∷◌, ◌++◌, length, codes, slice_get}
+use Rattle.std.specs.Option.{option_map_or}
+use Rattle.std.specs.List.{flat_map, list_any, range_with_len}
+use Rattle.armcaps_enc.specs.declared.register.SysReg.{SysReg}
+use Rattle.armcaps_enc.specs.Registers.{tracked}
+use Rattle.armcaps_tables.specs.Core.{Core}
+use Rattle.armcaps_tables.specs.Overriding.{FieldOverrides}
+use Rattle.armcaps_tables.specs.Rows.{rows_of}
+use Rattle.armcaps_sanit.specs.Notes.{field_note}
+use Rattle.armcaps_sanit.specs.System.{system_word}
+use Rattle.armcaps_sanit.specs.Users.{user_word}
+use Rattle.armcaps_sanit.specs.Varying.{core_varies}
+use Rattle.armcaps_hwcap.specs.Words.{hwcap_word, hwcap2_word}
+use Rattle.armcaps_boot.specs.Causes.{capability_enabled, hwcap_advertised, is_system_length}
+use Rattle.armcaps_boot.specs.Findings.{Findings, admitted, boot_core, early}
+use Rattle.armcaps_boot.specs.World.{state_at}
+use Rattle.armcaps_report.specs.declared.group.Group.{Group}
+use Rattle.armcaps_report.specs.declared.group.Group.TheVariants.{Header, Cores, Registers, UserWords, Variations, Notes, Capabilities, Hwcaps, VectorLengths, End}
+use Rattle.armcaps_report.specs.Lines.{capability_line, core_line, flag_text, length_line, note_line, register_line, user_line, varies_line}
+use Rattle.armcaps_report.specs.Texts.{word_text}
+
+-- whether some of these cores differs from the boot core in a strict field of the register
+abbrev pub varies_among : Core → List Core → SysReg → Bool
+varies_among boot cores register = list_any (λ core. core_varies boot core register) cores
+
+-- the line of the field at an index of a register's table
+unfoldable pub note_line_at : FieldOverrides → Core → SysReg → ℕ → List ℕ
+note_line_at overrides boot register index =
+    option_map_or (λ row. note_line register row (field_note overrides boot register index row)) (slice_get (rows_of register) index) []
+
+-- the lines of a register's fields
+abbrev pub note_lines : FieldOverrides → Core → SysReg → List ℕ
+note_lines overrides boot register =
+    flat_map (note_line_at overrides boot register) (range_with_len 0 (length (rows_of register)))
+
+-- the names of the hwcaps that pass a test
+abbrev pub flags_text : (ℕ → Bool) → List ℕ
+flags_text advertised = flat_map (λ index. flag_text (advertised index) index) (range_with_len 0 57)
+
+-- the two words of hwcaps, and their names
+abbrev pub hwcap_lines : (ℕ → Bool) → List ℕ
+hwcap_lines advertised =
+    codes "hwcap " ++ word_text (hwcap_word advertised) ++ codes "\nhwcap2 " ++ word_text (hwcap2_word advertised)
+    ++ codes "\nflags" ++ flags_text advertised ++ 10 ∷ []
+
+-- each group: the header; the cores; the system registers over the cores that were ever admitted; the same as users see
+-- them; the registers in which some such core differs from the boot core; the overrides; the enabled capabilities; the hwcaps
+-- and the vector lengths, which the early cores decide; and the end
+unfoldable pub group_text : Findings → Group → List ℕ
+group_text found Header = codes "armcaps report 1\n"
+group_text found Cores =
+    flat_map (λ number. core_line found.boot number (state_at found.states number)) (range_with_len 0 (length found.cores))
+group_text found Registers =
+    flat_map (λ register. register_line register (system_word found.overrides (admitted found) register)) tracked
+group_text found UserWords =
+    flat_map (λ register. user_line register (user_word found.overrides (admitted found) register)) tracked
+group_text found Variations =
+    flat_map (λ register. varies_line register (varies_among (boot_core found) (admitted found) register)) tracked
+group_text found Notes = flat_map (note_lines found.overrides (boot_core found)) tracked
+group_text found Capabilities =
+    flat_map (λ number. capability_line (capability_enabled found.overrides (boot_core found) (early found) number) number)
+    (range_with_len 0 53)
+group_text found Hwcaps = hwcap_lines (hwcap_advertised found.overrides (early found))
+group_text found VectorLengths =
+    flat_map (λ length. length_line (is_system_length found.overrides (boot_core found) (early found) length) length)
+    (range_with_len 1 16)
+group_text found End = codes "end\n"
+
+-- the groups in their order
+abbrev pub groups : List Group
+groups = Header ∷ Cores ∷ Registers ∷ UserWords ∷ Variations ∷ Notes ∷ Capabilities ∷ Hwcaps ∷ VectorLengths ∷ End ∷ []
+
+-- the report
+unfoldable pub report_of : Findings → List ℕ
+report_of found = flat_map (group_text found) groups
