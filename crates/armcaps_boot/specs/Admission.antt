@@ -56,9 +56,13 @@ is_among_late board past number =
     not (number == board.boot) && has_come number past && not (came_early number past) && is_none (early_cause_of board number)
     && is_none (late_cause_of board past number)
 
+-- one of the cores that were ever admitted: an early or a late one
+abbrev pub is_among_admitted : Board → List Event → ℕ → Bool
+is_among_admitted board past number = is_among_early board past number || is_among_late board past number
+
 -- the cores that were ever admitted, in rising number
 abbrev pub admitted_of : Board → List Event → List Core
-admitted_of board past = chosen (λ number. is_among_early board past number || is_among_late board past number) board.cores
+admitted_of board past = chosen (is_among_admitted board past) board.cores
 
 -- why a core that has made a step is held back: its early cause, or where it is verified and not early its late cause
 unfoldable pub held_back : Board → List Event → ℕ → Option Cause

@@ -1,5 +1,5 @@
 -- What steps bring a machine to, the newest first, and what each of them is answered.
-use Rattle.std.specs.Prelude.{◌≡◌, ℕ, ◌==◌, Bool, if◌then◌else◌, List, ◌∷◌, length, map, Option, Some, None}
+use Rattle.std.specs.Prelude.{◌≡◌, ℕ, ◌==◌, Bool, false, if◌then◌else◌, List, ◌∷◌, length, map, Option, Some, None}
 use Rattle.std.specs.List.{range_with_len}
 use Rattle.armcaps_boot.specs.declared.cause.Cause.{Cause}
 use Rattle.armcaps_boot.specs.declared.core_state.CoreState.{CoreState}
@@ -65,7 +65,7 @@ pub record IsOf (board : Board) (world : World) : Type 0 where
 
 -- the machine is that of the board after these steps
 pub record IsAfter (board : Board) (past : List Event) (world : World) : Type 0 where
-  pub board : IsOf board world
+  pub of_board : IsOf board world
   pub states : world.states ≡ states_after board past
   pub final : world.final ≡ is_final past
   pub halted : world.halted ≡ halt_of board past
