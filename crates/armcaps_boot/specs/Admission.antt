@@ -69,7 +69,7 @@ unfoldable pub held_back : Board → List Event → ℕ → Option Cause
 held_back board past number =
     if is_some (last_step number past)
     then option_or (early_cause_of board number)
-      (if was_verified number past && not (came_early number past) then late_cause_of board past number else None)
+    (if was_verified number past && not (came_early number past) then late_cause_of board past number else None)
     else None
 
 -- what stops the machine at this step: the check of a core whose early cause does

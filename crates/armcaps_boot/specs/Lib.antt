@@ -17,3 +17,4 @@ pub mod Order
 pub mod Admission
 pub mod After
 pub mod Findings
+pub mod Outcome

@@ -11,6 +11,7 @@ ghost use Rattle.armcaps_boot.specs.Numbers.{is_in};
 
 use crate::core_state::CoreState;
 use crate::event::Event;
+use crate::halt::Halt;
 use crate::machine::Machine;
 use crate::refused::{BootRefused, StepRefused};
 use crate::reply::Reply;
@@ -136,6 +137,13 @@ impl Boot {
         ensures { result ≡ slice_get self.now.states core }
     {
         self.machine.states.get(core as usize).copied()
+    }
+
+    /// The core that stopped the machine, and why, if one did.
+    pub fn halted(&self) -> Option<Halt>
+        ensures { result ≡ self.now.halted }
+    {
+        self.machine.halted
     }
 
     /// Whether finalisation was done.

@@ -25,4 +25,4 @@ pub use halt::Halt;
 pub use past::Past;
 pub use refused::{BootRefused, StepRefused};
 pub use reply::Reply;
-pub use step_line::StepLine;
+pub use step_line::{StepLine, events_of};
