@@ -13,7 +13,8 @@ use crate::format::Format;
 use crate::kind::TextKind;
 use crate::line::Line;
 use crate::reader::Reader;
-use crate::step_line::StepLine;
+use crate::steps::{core_of, is_in_turn};
+use armcaps_boot::StepLine;
 use armcaps_enc::SysReg;
 
 // A command line has at most this many bytes.
@@ -167,7 +168,7 @@ impl Reader<'_> {
         match line {
             Line::Core(core) => *core as usize != self.cores.len(),
             Line::Boot(core) => !self.has_core(*core),
-            Line::Step(step) => match step.core() {
+            Line::Step(step) => match core_of(*step) {
                 Some(core) => !self.has_core(core),
                 None => false,
             },
@@ -188,7 +189,7 @@ impl Reader<'_> {
         ensures { result ≡ is_boot_step (kept self.now) (plain line.now) }
     {
         match line {
-            Line::Step(step) => match (step.core(), self.boot) {
+            Line::Step(step) => match (core_of(*step), self.boot) {
                 (Some(core), Some(boot)) => core == boot,
                 _ => false,
             },
@@ -200,7 +201,7 @@ impl Reader<'_> {
     fn last_of(&self, step: StepLine) -> Option<StepLine>
         ensures { result ≡ option_and_then (λ core. last_step core (kept self.now).steps) (core_of step) }
     {
-        match step.core() {
+        match core_of(step) {
             Some(core) => self.steps.last(core),
             None => None,
         }
@@ -210,7 +211,7 @@ impl Reader<'_> {
         ensures { result ≡ is_out_of_turn (kept self.now) (plain line.now) }
     {
         match line {
-            Line::Step(step) => !step.is_in_turn(self.last_of(*step)),
+            Line::Step(step) => !is_in_turn(self.last_of(*step), *step),
             _ => false,
         }
     }

@@ -11,14 +11,12 @@ mod lines;
 mod machine;
 mod number;
 mod reader;
-mod step_line;
 mod steps;
 mod tokens;
 
 pub use format::Format;
 pub use kind::{TextKind, TextRefused};
 pub use machine::Machine;
-pub use step_line::StepLine;
 
 #[cfg(test)]
 mod tests;

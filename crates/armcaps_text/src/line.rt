@@ -2,9 +2,9 @@
 use crate::form::Form;
 use crate::format::Format;
 use crate::kind::TextKind;
-use crate::step_line::StepLine;
 use crate::tokens::{Tokens, text_after_word};
 use armcaps_alt::{CallbackKind, Conduit, Layout};
+use armcaps_boot::StepLine;
 use armcaps_enc::SysReg;
 
 /// A line after line 1.

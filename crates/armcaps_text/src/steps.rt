@@ -3,7 +3,7 @@ ghost use Rattle.std.specs.Prelude.{◌≡◌, ℕ, ◌≤◌, ◌<◌, [], ◌�
 ghost use Rattle.armcaps_text.specs.Kept.{one_begun};
 ghost use Rattle.armcaps_text.specs.Steps.{core_of, last_step, is_checked, is_decided, is_begun, is_up, is_fresh, in_turn, is_in_flight, is_final};
 
-use crate::step_line::StepLine;
+use armcaps_boot::StepLine;
 use std::alloc::{AllocError, Global};
 use std::marker::Model;
 
@@ -18,7 +18,7 @@ pub struct Steps {
 
 impl Model for Steps {
     ghost use Rattle.std.specs.Prelude.{List};
-    ghost use Rattle.armcaps_text.specs.declared.step_line.StepLine.{StepLine};
+    ghost use Rattle.armcaps_boot.specs.declared.step_line.StepLine.{StepLine};
     ghost use Rattle.armcaps_text.specs.Kept.{AreKept};
 
     ghost Value = { List StepLine };
@@ -28,32 +28,30 @@ impl Model for Steps {
     ghost invariant = { λ steps. AreKept steps.all.items steps.last.items steps.begun steps.is_final };
 }
 
-impl StepLine {
-    /// The core that the step is of.
-    pub(crate) fn core(self) -> Option<u32>
-        ensures { result ≡ core_of self }
-    {
-        match self {
-            StepLine::Check(core)
-            | StepLine::Local(core)
-            | StepLine::Store(core)
-            | StepLine::Online(core)
-            | StepLine::Offline(core) => Some(core),
-            StepLine::Finalise => None,
-        }
+/// The core that a step is of.
+pub fn core_of(step: StepLine) -> Option<u32>
+    ensures { result ≡ core_of step }
+{
+    match step {
+        StepLine::Check(core)
+        | StepLine::Local(core)
+        | StepLine::Store(core)
+        | StepLine::Online(core)
+        | StepLine::Offline(core) => Some(core),
+        StepLine::Finalise => None,
     }
+}
 
-    /// Whether a core with this last step can make the step.
-    pub(crate) fn is_in_turn(self, last: Option<StepLine>) -> bool
-        ensures { result ≡ in_turn last self }
-    {
-        match self {
-            StepLine::Check(_) | StepLine::Online(_) => is_fresh(last),
-            StepLine::Local(_) => is_checked(last),
-            StepLine::Store(_) => is_decided(last),
-            StepLine::Offline(_) => is_up(last),
-            StepLine::Finalise => true,
-        }
+/// Whether a core with this last step can make the step.
+pub fn is_in_turn(last: Option<StepLine>, step: StepLine) -> bool
+    ensures { result ≡ in_turn last step }
+{
+    match step {
+        StepLine::Check(_) | StepLine::Online(_) => is_fresh(last),
+        StepLine::Local(_) => is_checked(last),
+        StepLine::Store(_) => is_decided(last),
+        StepLine::Offline(_) => is_up(last),
+        StepLine::Finalise => true,
     }
 }
 
@@ -161,7 +159,7 @@ impl Steps {
     pub fn push(&mut self, step: StepLine) -> Result<(), AllocError>
         ensures { OnOk result (self.new ≡ self.old ++ step ∷ []) }
     {
-        match step.core() {
+        match core_of(step) {
             Some(core) => {
                 let place = core as usize;
                 grow(&mut self.last, place + 1)?;

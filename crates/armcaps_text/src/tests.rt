@@ -1,6 +1,7 @@
 // Texts and what becomes of them.
-use crate::{Format, Machine, StepLine, TextKind, TextRefused};
+use crate::{Format, Machine, TextKind, TextRefused};
 use armcaps_alt::{CallbackKind, Conduit, Layout, Named};
+use armcaps_boot::StepLine;
 use armcaps_enc::SysReg;
 use armcaps_tables::find;
 use std::alloc::{AllocError, Global};
