@@ -1,0 +1,8 @@
+-- Lemmas, by subject.
+pub mod Keeping
+pub mod Moving
+pub mod Planned
+pub mod Refusing
+pub mod Sent
+pub mod Stamps
+pub mod Standing

@@ -1,0 +1,41 @@
+-- One entry more, the first that is refused, and none that is.
+use Rattle.std.proofs.Common.{◌≡◌, ℕ, None, arith, refl, subst, inl, inr, ◌∙◌}
+use Rattle.std.proofs.lemmas.Bool.{cases_lt}
+use Rattle.armcaps_alt.specs.Entries.{Features, entry_at}
+use Rattle.armcaps_alt.specs.Refusals.{refusal_of}
+use Rattle.armcaps_patch.specs.Features.{features_of}
+use Rattle.armcaps_patch.proofs.Keeping.{each_more, few_more, kept_more}
+use Rattle.armcaps_patch.proofs.Refusing.{first_refused, none_refused}
+use Rattle.armcaps_patch.proofs.checking.keep_all.Goals as goal
+
+pub loop-index-preserved : goal.loop-index-preserved
+loop-index-preserved c =
+    let features : Features = features_of c.args.boot.now c.args.names.now in
+    let image = c.args.image.now in
+    let at = c.loop-index.index in
+    let found = c.in-Ok.ensures in
+    let grown = c.in_ok-add-in-Ok.ensures in
+    let is : c.entry_at-entry.result ≡ entry_at image c.args.layout at = c.entry_at-entry.ensures in
+    let here : refusal_of features image (entry_at image c.args.layout at) ≡ None = rw is at found.accepted in
+    record {
+      accepted = λ k within. elim (cases_lt k at) [
+        | inl before ↦ c.loop-index.invariant.accepted k before
+        | inr last ↦ (let same : at ≡ k = omega arith in subst (λ (j : ℕ). refusal_of features image (entry_at image c.args.layout j) ≡ None) same here)
+      ];
+      kept = kept_more features image c.args.layout at _ _ c.in-Ok.found c.loop-index.invariant.kept grown (rw is at found.kept);
+      each = each_more _ _ _ c.in-Ok.found c.loop-index.invariant.each grown found.each;
+      few = few_more _ _ c.in-Ok.found at c.loop-index.invariant.few grown;
+    }
+
+pub returns-in-Err-clause-refused : goal.returns-in-Err-clause-refused
+returns-in-Err-clause-refused c = λ entry kind same.
+    let features : Features = features_of c.args.boot.now c.args.names.now in
+    let here = rw c.entry_at-entry.ensures at c.in-Err.ensures.refused in
+    let first = first_refused features c.args.image.now c.args.layout c.loop-index.index c.in-Err.kind c.loop-index-test.true c.loop-index.invariant.accepted here in
+    let number : c.loop-index.index ≡ entry = cc in
+    let why : c.in-Err.kind ≡ kind = cc in
+    first ∙ rw (number, why) refl
+
+pub returns-clause-accepted : goal.returns-clause-accepted
+returns-clause-accepted c =
+    none_refused (features_of c.args.boot.now c.args.names.now) c.args.image.now c.args.layout (λ k within. c.loop-index.invariant.accepted k (omega arith))

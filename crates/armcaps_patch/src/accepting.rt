@@ -1,0 +1,169 @@
+//! What is kept of a selected entry, or why it is refused.
+
+ghost use Rattle.std.specs.Prelude.{◌≡◌, ◌+◌, ◌≤◌, ◌^◌, nat_le, true, false, None, Some, IfErr, IfOk, if◌then◌else◌, length};
+ghost use Rattle.armcaps_alt.specs.Refusals.{first_kind, has_other_length, is_unaligned, is_within, makes_other_length, tests_of};
+ghost use Rattle.armcaps_alt.specs.Words.{place_of};
+ghost use Rattle.armcaps_patch.specs.Accepted.{word_tests};
+ghost use Rattle.armcaps_patch.specs.Kept.{IsKept, kept_of};
+
+use crate::kept::Kept;
+use crate::words::moved;
+use armcaps_alt::{CallbackKind, Entry, Names, PatchKind};
+use armcaps_insn::FixRefused;
+
+// What is kept of a selected entry, or the least kind that holds of it.
+pub(crate) fn accept(entry: &Entry, image: &[u8], names: &Names) -> Result<Kept, PatchKind>
+    requires { length image.now ≤ 2 ^ 29 }
+    ensures refused { IfErr result (λ kind. first_kind (tests_of names.now image.now entry.now) ≡ Some kind) }
+    ensures accepted { IfOk result (λ kept. first_kind (tests_of names.now image.now entry.now) ≡ None) }
+    ensures kept { IfOk result (λ kept. kept ≡ kept_of names.now entry.now) }
+    ensures each { IfOk result (IsKept (length image.now)) }
+{
+    if is_unaligned(entry) {
+        return Err(PatchKind::Unaligned);
+    }
+    let Some(site) = place_within(image.len(), entry.site, entry.orig_len) else {
+        return Err(PatchKind::SiteOutside);
+    };
+    if has_other_length(entry) {
+        return Err(PatchKind::Length);
+    }
+    if entry.callback {
+        accept_callback(entry, site, image, names)
+    } else {
+        accept_replacement(entry, site, image, names)
+    }
+}
+
+// The same of an entry with a callback, of which no kind before UnknownCallback holds.
+fn accept_callback(entry: &Entry, site: u32, image: &[u8], names: &Names) -> Result<Kept, PatchKind>
+    requires callback { entry.now.callback ≡ true }
+    requires aligned { is_unaligned entry.now ≡ false }
+    requires site { site ≡ place_of entry.now.site }
+    requires within { is_within (length image.now) entry.now.site entry.now.orig_len ≡ true }
+    requires length { has_other_length entry.now ≡ false }
+    ensures refused { IfErr result (λ kind. first_kind (tests_of names.now image.now entry.now) ≡ Some kind) }
+    ensures accepted { IfOk result (λ kept. first_kind (tests_of names.now image.now entry.now) ≡ None) }
+    ensures kept { IfOk result (λ kept. kept ≡ kept_of names.now entry.now) }
+    ensures each { IfOk result (IsKept (length image.now)) }
+{
+    let Some(kind) = names.callback(entry.repl) else {
+        return Err(PatchKind::UnknownCallback);
+    };
+    if makes_other_length(kind, entry.orig_len) {
+        return Err(PatchKind::CallbackLength);
+    }
+    Ok(Kept {
+        site,
+        repl: 0,
+        len: entry.orig_len,
+        callback: Some(kind),
+    })
+}
+
+// The same of an entry without a callback, of which no kind before ReplacementOutside holds.
+fn accept_replacement(
+    entry: &Entry,
+    site: u32,
+    image: &[u8],
+    names: &Names,
+) -> Result<Kept, PatchKind>
+    requires callback { entry.now.callback ≡ false }
+    requires size { length image.now ≤ 2 ^ 29 }
+    requires aligned { is_unaligned entry.now ≡ false }
+    requires site { site ≡ place_of entry.now.site }
+    requires within { is_within (length image.now) entry.now.site entry.now.orig_len ≡ true }
+    requires length { has_other_length entry.now ≡ false }
+    ensures refused { IfErr result (λ kind. first_kind (tests_of names.now image.now entry.now) ≡ Some kind) }
+    ensures accepted { IfOk result (λ kept. first_kind (tests_of names.now image.now entry.now) ≡ None) }
+    ensures kept { IfOk result (λ kept. kept ≡ kept_of names.now entry.now) }
+    ensures each { IfOk result (IsKept (length image.now)) }
+{
+    let Some(repl) = place_within(image.len(), entry.repl, entry.orig_len) else {
+        return Err(PatchKind::ReplacementOutside);
+    };
+    let kept = Kept {
+        site,
+        repl,
+        len: entry.orig_len,
+        callback: None,
+    };
+    match refused_word(&kept, image) {
+        Some(kind) => Err(kind),
+        None => Ok(kept),
+    }
+}
+
+// Whether the site, its length, or without a callback the replacement is no multiple of four bytes.
+fn is_unaligned(entry: &Entry) -> bool
+    ensures { result ≡ is_unaligned entry.now }
+{
+    entry.site % 4 != 0 || entry.orig_len % 4 != 0 || !entry.callback && entry.repl % 4 != 0
+}
+
+// Whether the replacement's length isn't the site's, or with a callback isn't 0.
+fn has_other_length(entry: &Entry) -> bool
+    ensures { result ≡ has_other_length entry.now }
+{
+    if entry.callback {
+        entry.alt_len != 0
+    } else {
+        entry.alt_len != entry.orig_len
+    }
+}
+
+// Whether a callback of this kind makes another number of bytes.
+fn makes_other_length(kind: CallbackKind, len: u8) -> bool
+    ensures { result ≡ makes_other_length kind len }
+{
+    match kind {
+        CallbackKind::FinalCtr => len != 16,
+        CallbackKind::Conduit => len != 4,
+        CallbackKind::Nops | CallbackKind::Keep => false,
+    }
+}
+
+// A place from which so many bytes are within an image of this size.
+fn place_within(size: usize, place: i64, len: u8) -> Option<u32>
+    requires { size ≤ 2 ^ 29 }
+    ensures { result ≡ (if is_within size place len then Some (place_of place) else None) }
+{
+    match u64::try_from(place) {
+        Ok(place) => place_below(size, place, len),
+        Err(_) => None,
+    }
+}
+
+// The same of a place that isn't before the image.
+fn place_below(size: usize, place: u64, len: u8) -> Option<u32>
+    requires { size ≤ 2 ^ 29 }
+    ensures { result ≡ (if nat_le (place + len) size then Some place else None) }
+{
+    if place <= size as u64 && place + u64::from(len) <= size as u64 {
+        Some(place as u32)
+    } else {
+        None
+    }
+}
+
+// Why a word of a replacement can't move to the site, if there is one: the least kind.
+fn refused_word(kept: &Kept, image: &[u8]) -> Option<PatchKind>
+    requires kept { IsKept (length image.now) kept.now }
+    requires replacement { kept.now.callback ≡ None }
+    requires size { length image.now ≤ 2 ^ 29 }
+    ensures { result ≡ first_kind (word_tests image.now kept.now) }
+{
+    let mut is_out_of_range = false;
+    for index in 0..u32::from(kept.len / 4) {
+        match moved(kept, index, image) {
+            Ok(_) => {}
+            Err(FixRefused::Literal { .. }) => return Some(PatchKind::Literal),
+            Err(FixRefused::Range { .. }) => is_out_of_range = true,
+        }
+    }
+    if is_out_of_range {
+        Some(PatchKind::Range)
+    } else {
+        None
+    }
+}

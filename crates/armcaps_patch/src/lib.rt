@@ -1,0 +1,18 @@
+//! Plans of patched images: the alternatives of a kernel's image that the cores of a machine may run (Linux,
+//! arch/arm64/kernel/alternative.c).
+#![tactic(auto)]
+
+mod accepting;
+mod checking;
+mod kept;
+mod nearby;
+mod pieces;
+mod planning;
+mod refused;
+mod selecting;
+mod site;
+mod slots;
+mod words;
+
+pub use planning::Plan;
+pub use refused::PatchRefused;

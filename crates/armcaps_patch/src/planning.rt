@@ -1,0 +1,200 @@
+//! Plans of patched images: what they keep, and how they write.
+
+ghost use Rattle.std.specs.Prelude.{◌≡◌, ◌+◌, ◌/◌, ◌%◌, ◌^◌, ◌<◌, ◌≤◌, ℕ, IfOk, OnErr, OnOk, length, map, slice_index};
+ghost use Rattle.std.specs.List.{All, range_with_len};
+ghost use Rattle.armcaps_io.specs.Causes.{Rose};
+ghost use Rattle.armcaps_io.specs.Streams.{Appends, AppendsPrefix};
+ghost use Rattle.armcaps_alt.specs.declared.table_place.Layout.{Layout};
+ghost use Rattle.armcaps_alt.specs.Entries.{Features};
+ghost use Rattle.armcaps_alt.specs.Patched.{patched_image};
+ghost use Rattle.armcaps_patch.specs.Index.{IsSite, Tells, last_at};
+ghost use Rattle.armcaps_patch.specs.Kept.{IsKept, StandsFor, kept_covers, planned_byte, planned_image, sites_of};
+
+use crate::kept::Kept;
+use crate::nearby::near;
+use crate::pieces::put_words;
+use crate::site::Site;
+use crate::slots::mark_all;
+use armcaps_alt::Conduit;
+use armcaps_io::{Sink, WriteFault, write_whole};
+use std::alloc::{AllocError, Global};
+use std::marker::Model;
+
+/// What is to be patched in an image: the selected entries of its table in their order, and an index that names for each
+/// word the last of them that covers it.
+#[derive(Debug, Drop)]
+pub struct Plan {
+    kept: Vec<Kept>,
+    index: Vec<Site>,
+    size: u32,
+    ctr: u64,
+    conduit: Conduit,
+}
+
+impl Model for Plan {
+    ghost use Rattle.armcaps_patch.specs.Kept.{IsPlan, Planned};
+
+    ghost Value = { Planned };
+
+    ghost view = { λ p. record { kept = p.kept.items; size = p.size; ctr = p.ctr; conduit = p.conduit } };
+
+    ghost invariant = { λ p. IsPlan p.size p.kept.items p.index.items };
+}
+
+impl Plan {
+    // A plan of what it keeps. All memory is taken here.
+    pub(crate) fn of(
+        alloc: Global,
+        kept: Vec<Kept>,
+        size: u32,
+        ctr: u64,
+        conduit: Conduit,
+    ) -> Result<Plan, AllocError>
+        requires size { size ≤ 2 ^ 29 }
+        requires few { length kept.items ≤ 2 ^ 26 }
+        requires kept { All (IsKept size) kept.items }
+        ensures { IfOk result (λ plan. plan ≡ record { kept = kept.items; size = size; ctr = ctr; conduit = conduit }) }
+    {
+        let mut index = sites(alloc, &kept)?;
+        index.sort_unstable_by_key(|site| site.place);
+        Ok(Plan {
+            kept,
+            index,
+            size,
+            ctr,
+            conduit,
+        })
+    }
+}
+
+impl Plan {
+    /// Writes the patched image of the image that was checked, in pieces of at most 4096 bytes. It takes no memory.
+    ///
+    /// After `WriteFault` the sink has got a first part of it.
+    pub fn write<O: Sink>(&self, image: &[u8], sink: &mut O) -> Result<(), WriteFault>
+        requires { length image.now ≡ self.now.size }
+        ensures whole { (features : Features) (layout : Layout) → StandsFor self.now features image.now layout
+            → OnOk result (Appends (O.held sink.old) (O.held sink.new) (patched_image features image.now layout)) }
+        ensures prefix { (features : Features) (layout : Layout) → StandsFor self.now features image.now layout
+            → OnErr result (AppendsPrefix (O.held sink.old) (O.held sink.new) (patched_image features image.now layout)) }
+        ensures never_falls { O.faults sink.old ≤ O.faults sink.new }
+        ensures cause { OnErr result (Rose (O.faults sink.old) (O.faults sink.new)) }
+    {
+        self.send_all(image, sink)
+    }
+
+    // Sends the image that the plan makes, piece after piece.
+    fn send_all<O: Sink>(&self, image: &[u8], sink: &mut O) -> Result<(), WriteFault>
+        requires { length image.now ≡ self.now.size }
+        ensures whole { OnOk result (Appends (O.held sink.old) (O.held sink.new) (planned_image self.now image.now)) }
+        ensures prefix { OnErr result
+            (AppendsPrefix (O.held sink.old) (O.held sink.new) (planned_image self.now image.now)) }
+        ensures never_falls { O.faults sink.old ≤ O.faults sink.new }
+        ensures cause { OnErr result (Rose (O.faults sink.old) (O.faults sink.new)) }
+    {
+        let mut buffer = [0u8; 4096];
+        let mut slots = [0u32; 1024];
+        let mut place = 0;
+        while place < image.len() {
+            let count = (image.len() - place).min(4096);
+            self.send(
+                image,
+                place,
+                &mut buffer[..count],
+                &mut slots[..count / 4],
+                sink,
+            )?;
+            place += count;
+        }
+        Ok(())
+    }
+
+    // Sends the bytes of one piece, as many as the buffer has, from a place on. A buffer that isn't a multiple of 4 bytes
+    // long goes to the image's end. A piece that no site comes near is sent from the image itself.
+    fn send<O: Sink>(
+        &self,
+        image: &[u8],
+        from: usize,
+        buffer: &mut [u8],
+        slots: &mut [u32],
+        sink: &mut O,
+    ) -> Result<(), WriteFault>
+        requires size { length image.now ≡ self.now.size }
+        requires aligned { from % 4 ≡ 0 }
+        requires within { from + length buffer.old ≤ length image.now }
+        requires slots { length slots.old ≡ length buffer.old / 4 }
+        requires ends { from + length buffer.old < length image.now → length buffer.old % 4 ≡ 0 }
+        ensures whole { OnOk result (Appends (O.held sink.old) (O.held sink.new)
+            (map (planned_byte self.now image.now) (range_with_len from (length buffer.old)))) }
+        ensures prefix { OnErr result (AppendsPrefix (O.held sink.old) (O.held sink.new)
+            (map (planned_byte self.now image.now) (range_with_len from (length buffer.old)))) }
+        ensures never_falls { O.faults sink.old ≤ O.faults sink.new }
+        ensures cause { OnErr result (Rose (O.faults sink.old) (O.faults sink.new)) }
+    {
+        let to = from + buffer.len();
+        let nearby = self.nearby(from, to);
+        if nearby.is_empty() {
+            return write_whole(sink, &image[from..to]);
+        }
+        self.fill(image, from, nearby, buffer, slots);
+        write_whole(sink, buffer)
+    }
+
+    // The sites that can cover places from one on to another: the greatest stamp of theirs on a place tells the last kept
+    // entry that covers it.
+    fn nearby(&self, from: usize, to: usize) -> &[Site]
+        requires order { from ≤ to }
+        requires within { to ≤ self.now.size }
+        ensures small { self.now.size ≤ 2 ^ 29 }
+        ensures tells { (place : ℕ) → from ≤ place → place < to
+            → Tells (kept_covers place) (last_at place result.now) 0 self.now.kept }
+        ensures sites { All IsSite result.now }
+    {
+        near(&self.index, from as u32, to as u32)
+    }
+
+    // Fills a buffer with the bytes of the patched image from a place on, by the sites that can cover them.
+    fn fill(&self, image: &[u8], from: usize, nearby: &[Site], buffer: &mut [u8], slots: &mut [u32])
+        requires size { length image.now ≡ self.now.size }
+        requires small { length image.now ≤ 2 ^ 29 }
+        requires aligned { from % 4 ≡ 0 }
+        requires within { from + length buffer.old ≤ length image.now }
+        requires tells { (place : ℕ) → from ≤ place → place < from + length buffer.old
+            → Tells (kept_covers place) (last_at place nearby.now) 0 self.now.kept }
+        requires sites { All IsSite nearby.now }
+        requires slots { length slots.old ≡ length buffer.old / 4 }
+        requires ends { from + length buffer.old < length image.now → length buffer.old % 4 ≡ 0 }
+        ensures length { length buffer.new ≡ length buffer.old }
+        ensures bytes { (j : ℕ) → j < length buffer.new
+            → slice_index buffer.new j ≡ planned_byte self.now image.now (from + j) }
+    {
+        buffer.copy_from_slice(&image[from..from + buffer.len()]);
+        slots.fill(0);
+        mark_all(slots, from as u32, nearby);
+        put_words(
+            buffer,
+            from as u32,
+            slots,
+            &self.kept,
+            image,
+            self.ctr,
+            self.conduit,
+        );
+    }
+}
+
+// The sites of what is kept, numbered from 0 on.
+fn sites(alloc: Global, kept: &[Kept]) -> Result<Vec<Site>, AllocError>
+    requires { length kept.now ≤ 2 ^ 26 }
+    ensures { IfOk result (λ sites. sites.items ≡ sites_of 0 kept.now) }
+{
+    let mut sites = Vec::with_capacity(alloc, kept.len())?;
+    for (number, entry) in kept.iter().enumerate() {
+        sites.push(Site {
+            place: entry.site,
+            words: entry.len / 4,
+            number: number as u32,
+        })?;
+    }
+    Ok(sites)
+}
