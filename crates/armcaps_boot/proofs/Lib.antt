@@ -13,3 +13,9 @@ pub mod FinalWorld
 pub mod Beginning
 pub mod SafeSystem
 pub mod ComingBack
+pub mod Histories
+pub mod Holding
+pub mod ShorterHistories
+pub mod Answering
+pub mod CoreAnswers
+pub mod WholeRuns

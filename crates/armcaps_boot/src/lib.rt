@@ -8,6 +8,7 @@ mod core_state;
 mod event;
 mod gathering;
 mod halt;
+pub mod laws;
 mod machine;
 mod moving;
 mod past;

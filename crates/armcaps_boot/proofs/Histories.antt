@@ -1,0 +1,260 @@
+-- What holds of a core after steps that are in order.
+use Rattle.std.proofs.Common.{◌≡◌, ◌<◌, ◌≤◌, ◌+◌, ◌⊎◌, inl, inr, ℕ, zero, suc, Bool, true, false, not, ◌&&◌, ◌||◌, List, [], ◌∷◌, Option, Some, None, refl, sym, ◌∙◌, ap, subst, arith}
+use Rattle.std.specs.Prelude.{◌==◌, nat_lt}
+use Rattle.std.specs.List.{list_any, range_with_len}
+use Rattle.std.proofs.lemmas.Bool.{cases_lt}
+use Rattle.std.proofs.lemmas.Bool.Decides.{Decides-ltb, Decides-eqb, not_from_Decides}
+use Rattle.armcaps_boot.specs.declared.event.Event.{Event}
+use Rattle.armcaps_boot.specs.declared.event.Event.TheVariants.{Check, Local, Store, Offline, Finalise}
+use Rattle.armcaps_boot.specs.Admission.{came_early, has_come, was_verified}
+use Rattle.armcaps_boot.specs.Order.{in_order, is_next, is_some_in_flight, is_begun_last, is_turn_of, is_up_last, is_updated_last}
+use Rattle.armcaps_boot.specs.Steps.{is_final, is_finalise, is_local_of, is_step_of, is_store_of, last_step}
+
+-- went offline
+abbrev pub is_gone_last : Option Event → Bool
+is_gone_last (Some (Offline core)) = true
+is_gone_last _ = false
+
+pub or_left : (a b : Bool) → a ≡ true → (a || b) ≡ true
+or_left true b e = refl
+or_left false b e = absurd (let no : ⊥ = cc in no)
+
+pub or_right : (a b : Bool) → b ≡ true → (a || b) ≡ true
+or_right true b e = refl
+or_right false b e = e
+
+pub left_false : (a b : Bool) → (a || b) ≡ false → a ≡ false
+left_false true b e = e
+left_false false b e = refl
+
+pub right_false : (a b : Bool) → (a || b) ≡ false → b ≡ false
+right_false true b e = absurd (let no : ⊥ = cc in no)
+right_false false b e = e
+
+pub and_left : (a b : Bool) → (a && b) ≡ true → a ≡ true
+and_left true b e = refl
+and_left false b e = e
+
+pub and_right : (a b : Bool) → (a && b) ≡ true → b ≡ true
+and_right true b e = e
+and_right false b e = absurd (let no : ⊥ = cc in no)
+
+pub not_true : (a : Bool) → not a ≡ true → a ≡ false
+not_true true e = sym e
+not_true false e = refl
+
+-- one of two holds, or neither
+pub on_either : (a b : Bool) → (a || b) ≡ true → (P : Type 0) → (a ≡ true → P) → (b ≡ true → P) → P
+on_either true b e P l r = l refl
+on_either false b e P l r = r e
+
+-- a core's store and its local step are steps of it
+pub store_is_step : (k : ℕ) (e : Event) → is_step_of k e ≡ false → is_store_of k e ≡ false
+store_is_step k (Store c) h = h
+store_is_step k (Check c) h = refl
+store_is_step k (Local c) h = refl
+store_is_step k (Offline c) h = refl
+store_is_step k Finalise h = refl
+
+pub local_is_step : (k : ℕ) (e : Event) → is_step_of k e ≡ false → is_local_of k e ≡ false
+local_is_step k (Local c) h = h
+local_is_step k (Check c) h = refl
+local_is_step k (Store c) h = refl
+local_is_step k (Offline c) h = refl
+local_is_step k Finalise h = refl
+
+-- what a step leaves of what the steps before it say of a core of which it is none
+pub last-other : (k : ℕ) (e : Event) (p : List Event) → is_step_of k e ≡ false → last_step k (e ∷ p) ≡ last_step k p
+last-other k e p other = rw other
+
+pub last-own : (k : ℕ) (e : Event) (p : List Event) → is_step_of k e ≡ true → last_step k (e ∷ p) ≡ Some e
+last-own k e p own = rw own
+
+or_nothing : (a b c : Bool) → b ≡ false → (a || (b && c)) ≡ a
+or_nothing true b c e = refl
+or_nothing false b c e = rw e
+
+-- what is no store of a core changes nothing of whether it came, and what is no local step nothing of whether it was verified
+pub come-same : (k : ℕ) (e : Event) (p : List Event) → is_store_of k e ≡ false → has_come k (e ∷ p) ≡ has_come k p
+come-same k e p not_store = ap (λ b. b || has_come k p) not_store
+
+pub early-same : (k : ℕ) (e : Event) (p : List Event) → is_store_of k e ≡ false → came_early k (e ∷ p) ≡ came_early k p
+unfolding came_early
+early-same k e p not_store = or_nothing (came_early k p) (is_store_of k e) (not (is_final p)) not_store
+
+pub verified-same : (k : ℕ) (e : Event) (p : List Event) → is_local_of k e ≡ false → was_verified k (e ∷ p) ≡ was_verified k p
+unfolding was_verified
+verified-same k e p not_local = or_nothing (was_verified k p) (is_local_of k e) (is_final p) not_local
+
+or_and_not : (a b c : Bool) → c ≡ true → (a || (b && not c)) ≡ a
+or_and_not true b c e = refl
+or_and_not false true c e = ap not e
+or_and_not false false c e = refl
+
+-- after finalisation no core becomes an early one
+pub early-final : (k : ℕ) (e : Event) (p : List Event) → is_final p ≡ true → came_early k (e ∷ p) ≡ came_early k p
+unfolding came_early
+early-final k e p final = or_and_not (came_early k p) (is_store_of k e) (is_final p) final
+
+-- a core that came early has come
+pub early_came : (k : ℕ) (p : List Event) → came_early k p ≡ true → has_come k p ≡ true
+unfolding came_early
+early_came k [] e = absurd (let no : ⊥ = cc in no)
+early_came k (e ∷ p) h =
+    on_either (came_early k p) (is_store_of k e && not (is_final p)) h (has_come k (e ∷ p) ≡ true)
+    (λ l. or_right (is_store_of k e) (has_come k p) (early_came k p l))
+    (λ r. or_left (is_store_of k e) (has_come k p) (and_left _ _ r))
+
+-- a core is verified after finalisation alone
+pub verified_final : (k : ℕ) (p : List Event) → was_verified k p ≡ true → is_final p ≡ true
+unfolding was_verified
+verified_final k [] e = absurd (let no : ⊥ = cc in no)
+verified_final k (e ∷ p) h =
+    on_either (was_verified k p) (is_local_of k e && is_final p) h (is_final (e ∷ p) ≡ true)
+    (λ l. or_right (is_finalise e) (is_final p) (verified_final k p l))
+    (λ r. or_right (is_finalise e) (is_final p) (and_right _ _ r))
+
+-- a core without a step has neither come nor been verified
+pub without_step : (k : ℕ) (p : List Event) → last_step k p ≡ None → (has_come k p ≡ false) × (was_verified k p ≡ false)
+unfolding was_verified
+without_step k [] none = (refl, refl)
+without_step k (e ∷ p) none = by (is_step_of k e) refl (without_step k p) where
+  by : (b : Bool) → is_step_of k e ≡ b → (last_step k p ≡ None → (has_come k p ≡ false) × (was_verified k p ≡ false))
+      → (has_come k (e ∷ p) ≡ false) × (was_verified k (e ∷ p) ≡ false)
+  by true own more = absurd (let bad : Some e ≡ None = sym (last-own k e p own) ∙ none in let no : ⊥ = cc in no)
+  by false other more =
+      let before = more (sym (last-other k e p other) ∙ none) in
+      (come-same k e p (store_is_step k e other) ∙ before.0, verified-same k e p (local_is_step k e other) ∙ before.1)
+
+-- what holds of a core after steps in order
+pub record IsCourse (past : List Event) (core : ℕ) : Type 0 where
+  -- one that came, and not early, was verified
+  pub late : has_come core past ≡ true → came_early core past ≡ false → was_verified core past ≡ true
+  -- after finalisation one whose last step is its local one was verified
+  pub updated : is_final past ≡ true → is_updated_last (last_step core past) ≡ true → was_verified core past ≡ true
+  pub up : is_up_last (last_step core past) ≡ true → has_come core past ≡ true
+  pub gone : is_gone_last (last_step core past) ≡ true → has_come core past ≡ true
+
+-- what is_turn_of says
+pub record IsTurn (count boot core : ℕ) (ready : Bool) : Type 0 where
+  pub within : core < count
+  pub not_boot : core ≡ boot → ⊥
+  pub ready_is : ready ≡ true
+
+pub turn_of : (count boot core : ℕ) (ready : Bool) → is_turn_of count boot core ready ≡ true → IsTurn count boot core ready
+turn_of count boot core ready h =
+    let secondary : (nat_lt core count && not (core == boot)) ≡ true = and_left (nat_lt core count && not (core == boot)) ready h in record {
+      within = (Decides-ltb core count).0 (and_left (nat_lt core count) (not (core == boot)) secondary);
+      not_boot = not_from_Decides (core == boot) (Decides-eqb core boot) (not_true (core == boot) (and_right (nat_lt core count) (not (core == boot)) secondary));
+      ready_is = and_right (nat_lt core count && not (core == boot)) ready h;
+    }
+
+none_any : (test : ℕ → Bool) (from count : ℕ) → list_any test (range_with_len from count) ≡ false → (k : ℕ) → from ≤ k → k < from + count → test k ≡ false
+none_any test from zero none k low high = absurd (omega arith)
+none_any test from (suc count) none k low high =
+    by (cases_lt from k) (λ less. none_any test (from + 1) count (right_false (test from) (list_any test (range_with_len (from + 1) count)) none) k less (omega arith)) where
+      by : (from < k) ⊎ (k ≤ from) → (from + 1 ≤ k → test k ≡ false) → test k ≡ false
+      by (inl less) more = more (omega arith)
+      by (inr same) more =
+          let at : k ≡ from = omega arith in rw at (left_false (test from) (list_any test (range_with_len (from + 1) count)) none)
+
+pub none_in_flight : (n : ℕ) (p : List Event) → is_some_in_flight n p ≡ false → (k : ℕ) → k < n → is_begun_last (last_step k p) ≡ false
+unfolding is_some_in_flight
+none_in_flight n p none k within = none_any (λ core. is_begun_last (last_step core p)) 0 n none k (omega arith) (omega arith)
+
+-- at finalisation no core is on its way up
+pub settled : (n boot : ℕ) (p : List Event) (e : Event) → is_next n boot p e ≡ true → is_finalise e ≡ true
+    → (is_final p ≡ false) × ((k : ℕ) → k < n → is_begun_last (last_step k p) ≡ false)
+unfolding is_next
+settled n boot p Finalise next final =
+    (not_true _ (and_left _ _ next), none_in_flight n p (not_true _ (and_right (not (is_final p)) _ next)))
+settled n boot p (Check c) next final = absurd (let no : ⊥ = cc in no)
+settled n boot p (Local c) next final = absurd (let no : ⊥ = cc in no)
+settled n boot p (Store c) next final = absurd (let no : ⊥ = cc in no)
+settled n boot p (Offline c) next final = absurd (let no : ⊥ = cc in no)
+
+begun_or_not : (last : Option Event) → is_begun_last last ≡ false → is_updated_last last ≡ true → ⊥
+begun_or_not None h u = cc
+begun_or_not (Some (Check c)) h u = cc
+begun_or_not (Some (Local c)) h u = cc
+begun_or_not (Some (Store c)) h u = cc
+begun_or_not (Some (Offline c)) h u = cc
+begun_or_not (Some Finalise) h u = cc
+
+-- a core's course after a step of another core, or finalisation
+course_other : (n boot : ℕ) (p : List Event) (e : Event) → is_next n boot p e ≡ true → (k : ℕ) → k < n → IsCourse p k → is_step_of k e ≡ false
+    → IsCourse (e ∷ p) k
+course_other n boot p e next k within h other = record {
+  late = λ came early. verified ∙ h.late (sym come ∙ came) (sym (early-same k e p (store_is_step k e other)) ∙ early);
+  updated = λ final local. verified ∙ on_either (is_finalise e) (is_final p) final (was_verified k p ≡ true)
+      (λ now. absurd (begun_or_not (last_step k p) ((settled n boot p e next now).1 k within) (sym (ap is_updated_last last) ∙ local)))
+      (λ before. h.updated before (sym (ap is_updated_last last) ∙ local));
+  up = λ u. come ∙ h.up (sym (ap is_up_last last) ∙ u);
+  gone = λ g. come ∙ h.gone (sym (ap is_gone_last last) ∙ g);
+} where
+  last : last_step k (e ∷ p) ≡ last_step k p
+  last = last-other k e p other
+
+  come : has_come k (e ∷ p) ≡ has_come k p
+  come = come-same k e p (store_is_step k e other)
+
+  verified : was_verified k (e ∷ p) ≡ was_verified k p
+  verified = verified-same k e p (local_is_step k e other)
+
+-- a core's course after a step of its own
+course_own : (n boot : ℕ) (p : List Event) (e : Event) → is_next n boot p e ≡ true → (k : ℕ) → IsCourse p k → is_step_of k e ≡ true
+    → IsCourse (e ∷ p) k
+unfolding is_next came_early was_verified
+course_own n boot p (Check c) next k h own =
+    let last = last-own k (Check c) p own in record {
+      late = λ came early. verified-same k (Check c) p refl ∙ h.late came (sym (early-same k (Check c) p refl) ∙ early);
+      updated = λ final local. absurd (let bad : false ≡ true = sym (ap is_updated_last last) ∙ local in let no : ⊥ = cc in no);
+      up = λ u. absurd (let bad : false ≡ true = sym (ap is_up_last last) ∙ u in let no : ⊥ = cc in no);
+      gone = λ g. absurd (let bad : false ≡ true = sym (ap is_gone_last last) ∙ g in let no : ⊥ = cc in no);
+    }
+course_own n boot p (Local c) next k h own =
+    let last = last-own k (Local c) p own in record {
+      late = λ came early. or_left (was_verified k p) _ (h.late came (sym (early-same k (Local c) p refl) ∙ early));
+      updated = λ final local. or_right (was_verified k p) ((c == k) && is_final p) (ap (λ b. b && is_final p) own ∙ final);
+      up = λ u. absurd (let bad : false ≡ true = sym (ap is_up_last last) ∙ u in let no : ⊥ = cc in no);
+      gone = λ g. absurd (let bad : false ≡ true = sym (ap is_gone_last last) ∙ g in let no : ⊥ = cc in no);
+    }
+course_own n boot p (Store c) next k h own =
+    let last = last-own k (Store c) p own in
+    let same : c ≡ k = (Decides-eqb c k).0 own in
+    let local : is_updated_last (last_step k p) ≡ true = subst (λ (j : ℕ). is_updated_last (last_step j p) ≡ true) same (turn_of n boot c _ next).ready_is in record {
+      late = λ came early. verified-same k (Store c) p refl ∙ h.updated (not_false (is_final p) (by_store (sym (ap (λ b. b && not (is_final p)) own) ∙ right_false (came_early k p) _ early))) local;
+      updated = λ final u. absurd (let bad : false ≡ true = sym (ap is_updated_last last) ∙ u in let no : ⊥ = cc in no);
+      up = λ u. ap (λ b. b || has_come k p) own;
+      gone = λ g. absurd (let bad : false ≡ true = sym (ap is_gone_last last) ∙ g in let no : ⊥ = cc in no);
+    } where
+      not_false : (b : Bool) → not b ≡ false → b ≡ true
+      not_false true e = refl
+      not_false false e = sym e
+
+      by_store : not (is_final p) ≡ false → not (is_final p) ≡ false
+      by_store e = e
+course_own n boot p (Offline c) next k h own =
+    let last = last-own k (Offline c) p own in
+    let same : c ≡ k = (Decides-eqb c k).0 own in
+    let came : has_come k p ≡ true = h.up (subst (λ (j : ℕ). is_up_last (last_step j p) ≡ true) same (turn_of n boot c _ next).ready_is) in record {
+      late = λ came early. verified-same k (Offline c) p refl ∙ h.late came (sym (early-same k (Offline c) p refl) ∙ early);
+      updated = λ final u. absurd (let bad : false ≡ true = sym (ap is_updated_last last) ∙ u in let no : ⊥ = cc in no);
+      up = λ u. absurd (let bad : false ≡ true = sym (ap is_up_last last) ∙ u in let no : ⊥ = cc in no);
+      gone = λ g. came;
+    }
+course_own n boot p Finalise next k h own = absurd (let no : ⊥ = cc in no)
+
+-- of steps in order each core has such a course
+pub course : (n boot : ℕ) (p : List Event) → in_order n boot p ≡ true → (k : ℕ) → k < n → IsCourse p k
+unfolding in_order came_early was_verified
+course n boot [] order k within = record {
+  late = λ came early. absurd (let no : ⊥ = cc in no);
+  updated = λ final local. absurd (let no : ⊥ = cc in no);
+  up = λ u. absurd (let no : ⊥ = cc in no);
+  gone = λ g. absurd (let no : ⊥ = cc in no);
+}
+course n boot (e ∷ p) order k within = by (is_step_of k e) refl (course n boot p (and_right (is_next n boot p e) (in_order n boot p) order) k within) where
+  by : (b : Bool) → is_step_of k e ≡ b → IsCourse p k → IsCourse (e ∷ p) k
+  by true own before = course_own n boot p e (and_left (is_next n boot p e) (in_order n boot p) order) k before own
+  by false other before = course_other n boot p e (and_left (is_next n boot p e) (in_order n boot p) order) k within before other
