@@ -1,6 +1,7 @@
 -- What programs of users get that read an ID register (Linux, arch/arm64/kernel/cpufeature.c, `is_emulated`,
 -- `emulate_id_reg` and `emulate_sys_reg`).
 use Rattle.std.specs.Prelude.{ℕ, ◌/◌, ◌%◌, ◌^◌, ◌==◌, ◌&&◌, ◌||◌, Bool, if◌then◌else◌, nat_le, Option, Some, None, Result, Ok, Err, slice_get}
+use Rattle.std.specs.Option.{option_and_then, option_map}
 use Rattle.armcaps_enc.specs.declared.mrs_word.MrsWord.{MrsWord}
 use Rattle.armcaps_enc.specs.declared.register.SysReg.{SysReg}
 use Rattle.armcaps_enc.specs.declared.register.SysReg.TheVariants.{MidrEl1, MpidrEl1, RevidrEl1}
@@ -35,11 +36,13 @@ value_read found core (Some RevidrEl1) = 0
 value_read found core (Some register) = user_word found.overrides (admitted found) register
 value_read found core None = 0
 
--- what an instruction word reads, and where to, where its read is emulated
-abbrev pub emulated : Findings → ℕ → Option MrsWord → Option UserRead
-emulated found core None = None
-emulated found core (Some read) =
-    if is_emulated_number read.id then Some (record { rt = read.rt; value = value_read found core (register_numbered read.id) }) else None
+-- what an instruction word reads, where its read is emulated
+abbrev pub emulated_word : ℕ → Option MrsWord
+emulated_word word = option_and_then (λ read. if is_emulated_number read.id then Some read else None) (id_read word)
+
+-- what a core gets
+abbrev pub read_by : Findings → ℕ → MrsWord → UserRead
+read_by found core read = record { rt = read.rt; value = value_read found core (register_numbered read.id) }
 
 -- a core that runs reads; in every other state it is refused, whatever the word
 abbrev pub judged : Option CoreState → Option UserRead → Result UserRead UserRefused
@@ -49,4 +52,4 @@ judged state read = Err (NotAdmitted state)
 
 -- what a read of a user's program comes to, by the core's number and the instruction word
 unfoldable pub user_read : Findings → ℕ → ℕ → Result UserRead UserRefused
-user_read found core word = judged (slice_get found.states core) (emulated found core (id_read word))
+user_read found core word = judged (slice_get found.states core) (option_map (read_by found core) (emulated_word word))

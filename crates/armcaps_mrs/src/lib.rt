@@ -2,7 +2,9 @@
 #![tactic(auto)]
 
 mod read;
+mod reading;
 mod refused;
 
 pub use read::UserRead;
+pub use reading::read_user;
 pub use refused::UserRefused;

@@ -51,6 +51,10 @@ note_line register row note.Already = codes "note " ++ short_name_of register ++
 abbrev pub capability_line : Bool → ℕ → List ℕ
 capability_line enabled number = if enabled then capability_text number ++ 10 ∷ [] else []
 
+-- the line of a word of hwcaps
+unfoldable pub word_line : List ℕ → ℕ → List ℕ
+word_line name word = name ++ codes " " ++ word_text word ++ 10 ∷ []
+
 -- the name of a hwcap after a space, where it is advertised
 abbrev pub flag_text : Bool → ℕ → List ℕ
 flag_text advertised index = if advertised then codes " " ++ hwcap_name index else []

@@ -17,8 +17,7 @@ use Rattle.armcaps_boot.specs.Findings.{Findings, admitted, boot_core, early}
 use Rattle.armcaps_boot.specs.World.{state_at}
 use Rattle.armcaps_report.specs.declared.group.Group.{Group}
 use Rattle.armcaps_report.specs.declared.group.Group.TheVariants.{Header, Cores, Registers, UserWords, Variations, Notes, Capabilities, Hwcaps, VectorLengths, End}
-use Rattle.armcaps_report.specs.Lines.{capability_line, core_line, flag_text, length_line, note_line, register_line, user_line, varies_line}
-use Rattle.armcaps_report.specs.Texts.{word_text}
+use Rattle.armcaps_report.specs.Lines.{capability_line, core_line, flag_text, length_line, note_line, register_line, user_line, varies_line, word_line}
 
 -- whether some of these cores differs from the boot core in a strict field of the register
 abbrev pub varies_among : Core → List Core → SysReg → Bool
@@ -35,14 +34,14 @@ note_lines overrides boot register =
     flat_map (note_line_at overrides boot register) (range_with_len 0 (length (rows_of register)))
 
 -- the names of the hwcaps that pass a test
-abbrev pub flags_text : (ℕ → Bool) → List ℕ
+unfoldable pub flags_text : (ℕ → Bool) → List ℕ
 flags_text advertised = flat_map (λ index. flag_text (advertised index) index) (range_with_len 0 57)
 
 -- the two words of hwcaps, and their names
 abbrev pub hwcap_lines : (ℕ → Bool) → List ℕ
 hwcap_lines advertised =
-    codes "hwcap " ++ word_text (hwcap_word advertised) ++ codes "\nhwcap2 " ++ word_text (hwcap2_word advertised)
-    ++ codes "\nflags" ++ flags_text advertised ++ 10 ∷ []
+    word_line (codes "hwcap") (hwcap_word advertised) ++ word_line (codes "hwcap2") (hwcap2_word advertised)
+    ++ codes "flags" ++ flags_text advertised ++ 10 ∷ []
 
 -- each group: the header; the cores; the system registers over the cores that were ever admitted; the same as users see
 -- them; the registers in which some such core differs from the boot core; the overrides; the enabled capabilities; the hwcaps

@@ -1,6 +1,19 @@
 //! The report of a machine that was brought up, and how causes and registers are written.
 #![tactic(auto)]
 
+mod capabilities;
+mod causes;
+mod cores;
+mod fields;
 mod group;
+mod groups;
+mod hwcaps;
+mod lengths;
+mod registers;
+mod reporting;
+mod varying;
 
+pub use causes::push_cause;
 pub use group::Group;
+pub use registers::push_register;
+pub use reporting::report;

@@ -1,0 +1,4 @@
+-- The lemmas of this crate.
+pub mod Ranges
+pub mod Hexadecimal
+pub mod Searching
