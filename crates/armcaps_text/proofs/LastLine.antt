@@ -29,7 +29,7 @@ fails (one ∷ asked) k d h lt = by_first one.0 refl h (λ k lt h. fails asked k
     by_first false e h more k lt = at k e h more lt
 
 -- of what none of four tests is true, the last is not
-last_of_four : (a b c d : Bool) → (((a || b) || c) || d) ≡ false → d ≡ false
+pub last_of_four : (a b c d : Bool) → (((a || b) || c) || d) ≡ false → d ≡ false
 last_of_four true b c d h = cc
 last_of_four false true c d h = cc
 last_of_four false false true d h = cc

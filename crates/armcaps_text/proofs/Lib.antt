@@ -8,4 +8,7 @@ pub mod LineByLine
 pub mod KnownNames
 pub mod Walk
 pub mod LastLine
+pub mod History
 pub mod Soundness
+pub mod Images
+pub mod Readings

@@ -1,35 +1,52 @@
 -- What holds of what lines without a kind come to.
-use Rattle.std.proofs.Common.{◌≡◌, ℕ, ◌+◌, ◌*◌, ◌<◌, ◌≤◌, ◌==◌, ◌&&◌, ◌||◌, not, Bool, true, false, nat_lt, nat_le, List, [], ◌∷◌, ◌++◌, length, Option, Some, None, is_none, unwrap_or, refl, sym, subst, ◌∙◌, arith, length-append, lit<}
+use Rattle.std.proofs.Common.{◌≡◌, ℕ, ◌+◌, ◌*◌, ◌^◌, ◌<◌, ◌≤◌, ◌==◌, ◌&&◌, ◌||◌, not, Bool, true, false, nat_lt, nat_le, List, [], ◌∷◌, ◌++◌, length, Option, Some, None, is_none, option_and_then, unwrap_or, refl, sym, ap, subst, ◌∙◌, arith, length-append, append-nil, lit<}
 use Rattle.std.specs.Option.{option_map_or, option_or}
 use Rattle.std.proofs.Math.ListN.{length-set}
 use Rattle.std.proofs.lemmas.Bool.Decides.{nat_tests}
 use Rattle.armcaps_alt.specs.declared.table_place.Layout.{Layout}
+use Rattle.armcaps_boot.specs.Order.{is_some_in_flight, in_order, is_complete}
+use Rattle.armcaps_boot.specs.Steps.{history}
+use Rattle.armcaps_boot.specs.declared.step_line.StepLine.{StepLine}
+use Rattle.armcaps_cmdline.proofs.Fitting.{command_line_fits, listed}
+use Rattle.armcaps_cmdline.proofs.IdRegisters.{outside}
+use Rattle.armcaps_enc.specs.declared.register.SysReg.TheVariants.{CtrEl0}
 use Rattle.armcaps_text.specs.Before.{Before, before}
 use Rattle.armcaps_text.specs.Document.{reading_after}
 use Rattle.armcaps_text.specs.Kinds.{kinds_asked, kind_after, is_second_header, is_in_passed_section, lacks_core, lacks_boot, has_one_line}
 use Rattle.armcaps_text.specs.Learned.{zero_core, learned}
 use Rattle.armcaps_text.specs.Meaning.{section_of}
 use Rattle.armcaps_text.specs.Sound.{IsSound}
+use Rattle.armcaps_text.specs.Steps.{core_of, last_step, in_turn, is_in_flight, is_finalise, is_final}
 use Rattle.armcaps_text.specs.declared.format.Format.{Format}
 use Rattle.armcaps_text.specs.declared.kind.TextKind.TheVariants as kind
 use Rattle.armcaps_text.specs.declared.line.Line.{Line}
 use Rattle.armcaps_text.specs.declared.line.Line.TheVariants.{Skipped, Unknown, Malformed, Header, Core, Register, VectorLengths, Boot, CommandLine, Step, Number, Given, Conduit, Callback, Table, Image}
-use Rattle.armcaps_text.proofs.LastLine.{fails, boot_there}
+use Rattle.armcaps_text.proofs.History.{order-push, order_none, final_known, flight_none}
+use Rattle.armcaps_text.proofs.LastLine.{fails, last_of_four, boot_there}
 
--- a boot core is one of the cores, and no core begins after it; there are not too many cores
+-- a boot core is one of the cores, and no core begins after it; there are not too many cores; steps stand after a boot core, and
+-- each may come after those before it
 pub record SoFar (format : Format) (kept : Before) : Type 0 where
   pub boot : (core : ℕ) → kept.boot ≡ Some core → (core < length kept.cores) × (2 ≤ kept.section)
   pub few : length kept.cores ≤ format.cores
+  pub early : kept.boot ≡ None → kept.steps ≡ []
+  pub order : (core : ℕ) → kept.boot ≡ Some core → in_order (length kept.cores) core (history kept.steps) ≡ true
 
 pub sound_at_first : (format : Format) → SoFar format (before [])
 unfolding before
-sound_at_first format = record { boot = λ core h. cc; few = omega arith }
+sound_at_first format = record { boot = λ core h. cc; few = omega arith; early = λ h. refl; order = λ core h. cc }
 
--- as long as cores and boot core stay
-stays : (format : Format) (kept now : Before) → length now.cores ≡ length kept.cores → now.boot ≡ kept.boot → kept.section ≤ now.section → SoFar format kept → SoFar format now
-stays format kept now cores boot section so_far = record {
+-- steps in order are so whatever the lists that they stand in are called
+order_same : (old new boot : ℕ) (past now : List StepLine) → new ≡ old → now ≡ past → in_order old boot (history past) ≡ true → in_order new boot (history now) ≡ true
+order_same old new boot past now count steps ordered = rw (count, steps) ordered
+
+-- as long as cores, boot core and steps stay
+stays : (format : Format) (kept now : Before) → length now.cores ≡ length kept.cores → now.boot ≡ kept.boot → now.steps ≡ kept.steps → kept.section ≤ now.section → SoFar format kept → SoFar format now
+stays format kept now cores boot steps section so_far = record {
   boot = λ core h. let old = so_far.boot core (sym boot ∙ h) in (omega (arith, old.0, cores), omega (arith, old.1, section));
   few = omega (arith, so_far.few, cores);
+  early = λ h. steps ∙ so_far.early (sym boot ∙ h);
+  order = λ core h. order_same _ _ core _ _ cores steps (so_far.order core (sym boot ∙ h));
 }
 
 -- a line of a section that is passed is out of order
@@ -47,6 +64,8 @@ unfolding kind_after learned
 begins format kept core none so_far = record {
   boot = λ other h. absurd (no_boot other h);
   few = room;
+  early = λ h. append-nil kept.steps ∙ so_far.early h;
+  order = λ other h. absurd (no_boot other h);
 }
   where
     order : nat_lt 1 kept.section ≡ false
@@ -61,12 +80,23 @@ begins format kept core none so_far = record {
     room : length (kept.cores ++ zero_core ∷ []) ≤ format.cores
     room = let few : length kept.cores < format.cores = grind (arith, nat_tests) in omega (arith, few, length-append kept.cores (zero_core ∷ []))
 
+-- no second line of section 2 follows the first
+first_of_section : (section : ℕ) (lacks_core lacks_boot : Bool) → (((false || (nat_lt 2 section || (true && (2 == section)))) || lacks_core) || lacks_boot) ≡ false → 2 ≤ section → ⊥
+first_of_section section lacks_core lacks_boot h reached = by_tests (nat_lt 2 section) (2 == section) lacks_core lacks_boot refl refl h
+  where
+    by_tests : (later same c d : Bool) → nat_lt 2 section ≡ later → (2 == section) ≡ same → (((false || (later || (true && same))) || c) || d) ≡ false → ⊥
+    by_tests true same c d e f h = cc
+    by_tests false true c d e f h = cc
+    by_tests false false c d e f h = grind (arith, nat_tests)
+
 -- the boot core
 boots : (format : Format) (kept : Before) (core : ℕ) → kind_after format kept (Boot core) ≡ None → SoFar format kept → SoFar format (learned kept (Boot core))
 unfolding kind_after learned
 boots format kept core none so_far = record {
   boot = λ other h. let same : core ≡ other = cc in (subst (λ (n : ℕ). n < length kept.cores) same there, omega arith);
   few = so_far.few;
+  early = λ h. cc;
+  order = λ other h. order_same _ _ other [] _ refl (append-nil kept.steps ∙ so_far.early (no_boot kept.boot refl)) (order_none _ other);
 }
   where
     wrong : not (nat_lt core (length kept.cores)) ≡ false
@@ -75,38 +105,104 @@ boots format kept core none so_far = record {
     there : core < length kept.cores
     there = grind (arith, nat_tests)
 
+    no_boot : (boot : Option ℕ) → kept.boot ≡ boot → kept.boot ≡ None
+    no_boot None h = h
+    no_boot (Some other) h = absurd (first_of_section kept.section _ _ (fails (kinds_asked format kept (Boot core)) 1 (false, kind.Order) none (lit< tt)) (so_far.boot other h).1)
+
+not_false : (a : Bool) → not a ≡ false → a ≡ true
+not_false true h = refl
+not_false false h = cc
+
+-- a step
+steps : (format : Format) (kept : Before) (step : StepLine) → kind_after format kept (Step step) ≡ None → SoFar format kept → SoFar format (learned kept (Step step))
+unfolding kind_after learned
+steps format kept step none so_far = record {
+  boot = λ core h. let old = so_far.boot core h in (old.0, omega (arith, old.1));
+  few = so_far.few;
+  early = λ h. absurd (after_boot kept.boot has_boot h);
+  order = λ core h. order-push (length kept.cores) core kept.steps step wrong (secondary core h) (not_false _ turn) final (so_far.order core h);
+}
+  where
+    has_boot : is_none kept.boot ≡ false
+    has_boot = last_of_four false (is_in_passed_section kept (Step step)) (lacks_core kept (Step step)) (lacks_boot kept (Step step))
+        (fails (kinds_asked format kept (Step step)) 1 (false, kind.Order) none (lit< tt))
+
+    after_boot : (boot : Option ℕ) → is_none boot ≡ false → boot ≡ None → ⊥
+    after_boot None h none = cc
+    after_boot (Some core) h none = cc
+
+    wrong : option_map_or (λ core. not (nat_lt core (length kept.cores))) (core_of step) false ≡ false
+    wrong = fails (kinds_asked format kept (Step step)) 6 (false, kind.Order) none (lit< tt)
+
+    boot_step : option_map_or (λ core. option_map_or (λ boot. core == boot) kept.boot false) (core_of step) false ≡ false
+    boot_step = fails (kinds_asked format kept (Step step)) 8 (false, kind.Order) none (lit< tt)
+
+    secondary : (boot : ℕ) → kept.boot ≡ Some boot → option_map_or (λ core. core == boot) (core_of step) false ≡ false
+    secondary boot h = subst (λ (o : Option ℕ). option_map_or (λ core. option_map_or (λ boot. core == boot) o false) (core_of step) false ≡ false) h boot_step
+
+    turn : not (in_turn (option_and_then (λ core. last_step core kept.steps) (core_of step)) step) ≡ false
+    turn = fails (kinds_asked format kept (Step step)) 9 (false, kind.Order) none (lit< tt)
+
+    final : (is_finalise step && (is_final kept.steps || is_in_flight kept.steps)) ≡ false
+    final = fails (kinds_asked format kept (Step step)) 10 (false, kind.Order) none (lit< tt)
+
 -- one more line without a kind
 pub sound_next : (format : Format) (kept : Before) (line : Line (List ℕ)) → kind_after format kept line ≡ None → SoFar format kept → SoFar format (learned kept line)
 unfolding learned
-sound_next format kept Skipped none so_far = stays format kept (learned kept Skipped) refl refl (omega arith) so_far
-sound_next format kept Unknown none so_far = stays format kept (learned kept Unknown) refl refl (omega arith) so_far
-sound_next format kept (Malformed form kind) none so_far = stays format kept (learned kept (Malformed form kind)) refl refl (omega arith) so_far
-sound_next format kept Header none so_far = stays format kept (learned kept Header) refl refl (omega arith) so_far
+sound_next format kept Skipped none so_far = stays format kept (learned kept Skipped) refl refl (append-nil kept.steps) (omega arith) so_far
+sound_next format kept Unknown none so_far = stays format kept (learned kept Unknown) refl refl (append-nil kept.steps) (omega arith) so_far
+sound_next format kept (Malformed form kind) none so_far = stays format kept (learned kept (Malformed form kind)) refl refl (append-nil kept.steps) (omega arith) so_far
+sound_next format kept Header none so_far = stays format kept (learned kept Header) refl refl (append-nil kept.steps) (omega arith) so_far
 sound_next format kept (Core core) none so_far = begins format kept core none so_far
-sound_next format kept (Register reg word) none so_far = stays format kept (learned kept (Register reg word)) (length-set kept.cores _ _) refl (omega arith) so_far
-sound_next format kept (VectorLengths lengths) none so_far = stays format kept (learned kept (VectorLengths lengths)) (length-set kept.cores _ _) refl (omega arith) so_far
+sound_next format kept (Register reg word) none so_far = stays format kept (learned kept (Register reg word)) (length-set kept.cores _ _) refl (append-nil kept.steps) (omega arith) so_far
+sound_next format kept (VectorLengths lengths) none so_far = stays format kept (learned kept (VectorLengths lengths)) (length-set kept.cores _ _) refl (append-nil kept.steps) (omega arith) so_far
 sound_next format kept (Boot core) none so_far = boots format kept core none so_far
-sound_next format kept (CommandLine text) none so_far = stays format kept (learned kept (CommandLine text)) refl refl (omega arith) so_far
-sound_next format kept (Step step) none so_far = stays format kept (learned kept (Step step)) refl refl (omega arith) so_far
-sound_next format kept (Number number capability) none so_far = stays format kept (learned kept (Number number capability)) refl refl (omega arith) so_far
-sound_next format kept (Given number on) none so_far = stays format kept (learned kept (Given number on)) refl refl (omega arith) so_far
-sound_next format kept (Conduit conduit) none so_far = stays format kept (learned kept (Conduit conduit)) refl refl (omega arith) so_far
-sound_next format kept (Callback offset kind) none so_far = stays format kept (learned kept (Callback offset kind)) refl refl (omega arith) so_far
-sound_next format kept (Table layout) none so_far = stays format kept (learned kept (Table layout)) refl refl (omega arith) so_far
-sound_next format kept (Image length) none so_far = stays format kept (learned kept (Image length)) refl refl (omega arith) so_far
+sound_next format kept (CommandLine text) none so_far = stays format kept (learned kept (CommandLine text)) refl refl (append-nil kept.steps) (omega arith) so_far
+sound_next format kept (Step step) none so_far = steps format kept step none so_far
+sound_next format kept (Number number capability) none so_far = stays format kept (learned kept (Number number capability)) refl refl (append-nil kept.steps) (omega arith) so_far
+sound_next format kept (Given number on) none so_far = stays format kept (learned kept (Given number on)) refl refl (append-nil kept.steps) (omega arith) so_far
+sound_next format kept (Conduit conduit) none so_far = stays format kept (learned kept (Conduit conduit)) refl refl (append-nil kept.steps) (omega arith) so_far
+sound_next format kept (Callback offset kind) none so_far = stays format kept (learned kept (Callback offset kind)) refl refl (append-nil kept.steps) (omega arith) so_far
+sound_next format kept (Table layout) none so_far = stays format kept (learned kept (Table layout)) refl refl (append-nil kept.steps) (omega arith) so_far
+sound_next format kept (Image length) none so_far = stays format kept (learned kept (Image length)) refl refl (append-nil kept.steps) (omega arith) so_far
 
--- the last line
-pub sound_last : (format : Format) (kept : Before) (length : ℕ) → format.cores ≤ 512 → kind_after format kept (Image length) ≡ None → SoFar format kept → IsSound (reading_after (learned kept (Image length)))
+-- what two tests say of which neither holds
+completes : (final flight : Bool) → (true && (not final || flight)) ≡ false → (final ≡ true) × (flight ≡ false)
+completes true true h = cc
+completes true false h = (refl, refl)
+completes false flight h = cc
+
+both : (a b : Bool) → a ≡ true → b ≡ false → (a && not b) ≡ true
+both true false h k = refl
+both true true h k = cc
+both false b h k = cc
+
+-- steps that were made to the end
+complete : (count : ℕ) (past now : List StepLine) → (true && (not (is_final past) || is_in_flight past)) ≡ false → now ≡ past → is_complete count (history now) ≡ true
+complete count past now h same =
+    let ends = completes (is_final past) (is_in_flight past) h in
+    rw same (both _ _ (final_known past ∙ ends.0) (flight_none count past ends.1))
+
+-- the last line, where the image is not too long
+pub sound_last : (format : Format) (kept : Before) (bytes : ℕ) → format.cores ≤ 512 → bytes ≤ 2 ^ 29 → kind_after format kept (Image bytes) ≡ None → SoFar format kept → IsSound (reading_after (learned kept (Image bytes)))
 unfolding kind_after learned
-sound_last format kept bytes limit none so_far = record {
-  boot = by_boot kept.boot (boot_there format kept bytes none) so_far.boot;
+sound_last format kept bytes limit short none so_far = record {
+  boot = (by_boot kept.boot refl there).0;
   cores = omega (arith, so_far.few);
+  fit = command_line_fits (unwrap_or (option_or None kept.command_line) []);
+  plain_ctr = λ index. listed (unwrap_or (option_or None kept.command_line) []) CtrEl0 index ∙ outside (unwrap_or (option_or None kept.command_line) []) CtrEl0 index refl;
+  order = order_same _ _ _ _ _ refl (append-nil kept.steps) (by_boot kept.boot refl there).1;
+  complete = complete _ kept.steps _ (fails (kinds_asked format kept (Image bytes)) 11 (false, kind.Order) none (lit< tt)) (append-nil kept.steps);
+  image = short;
   table = by_layout kept.layout (fails (kinds_asked format kept (Image bytes)) 13 (false, kind.Order) none (lit< tt));
 }
   where
-    by_boot : (boot : Option ℕ) → is_none boot ≡ false → ((core : ℕ) → boot ≡ Some core → (core < length kept.cores) × (2 ≤ kept.section)) → unwrap_or (option_or None boot) 0 < length kept.cores
-    by_boot None h known = cc
-    by_boot (Some core) h known = (known core refl).0
+    there : is_none kept.boot ≡ false
+    there = boot_there format kept bytes none
+
+    by_boot : (boot : Option ℕ) → kept.boot ≡ boot → is_none boot ≡ false → (unwrap_or (option_or None boot) 0 < length kept.cores) × (in_order (length kept.cores) (unwrap_or (option_or None boot) 0) (history kept.steps) ≡ true)
+    by_boot None known h = cc
+    by_boot (Some core) known h = ((so_far.boot core known).0, so_far.order core known)
 
     by_layout : (layout : Option Layout) → option_map_or (λ (layout : Layout). nat_lt bytes (layout.table + 12 * layout.count)) layout false ≡ false → (unwrap_or (option_or None layout) (record { table = 0; count = 0 })).table + 12 * (unwrap_or (option_or None layout) (record { table = 0; count = 0 })).count ≤ bytes
     by_layout None h = omega arith

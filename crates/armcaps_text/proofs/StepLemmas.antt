@@ -84,7 +84,7 @@ one_is_begun (step ∷ last) h = by_first (is_begun step) refl h (one_is_begun l
     by_first false e h more = let found = more h in (suc found.0, found.1)
 
 -- a core that is on its way up has made a step
-has_step : (core : ℕ) (steps : List StepLine) → is_begun (last_step core steps) ≡ true → list_any (is_step_of core) steps ≡ true
+pub has_step : (core : ℕ) (steps : List StepLine) → is_begun (last_step core steps) ≡ true → list_any (is_step_of core) steps ≡ true
 unfolding last_step
 has_step core steps h = by_any (list_any (is_step_of core) steps) refl
   where
@@ -95,7 +95,7 @@ has_step core steps h = by_any (list_any (is_step_of core) steps) refl
         absurd (false≢true (sym (ap is_begun none) ∙ h))
 
 -- a core that has made a step is among those that have
-among : (p : ℕ → Bool) (core : ℕ) → p core ≡ true → (steps : List StepLine) → list_any (is_step_of core) steps ≡ true → list_any p (filter_map core_of steps) ≡ true
+pub among : (p : ℕ → Bool) (core : ℕ) → p core ≡ true → (steps : List StepLine) → list_any (is_step_of core) steps ≡ true → list_any p (filter_map core_of steps) ≡ true
 among p core h [] k = absurd (false≢true k)
 among p core h (step ∷ steps) k = by_core (core_of step) k (among p core h steps)
   where
@@ -151,7 +151,7 @@ or_true : (b : Bool) → (b || true) ≡ true
 or_true true = refl
 or_true false = refl
 
-eqb_same : (n : ℕ) → (n == n) ≡ true
+pub eqb_same : (n : ℕ) → (n == n) ≡ true
 eqb_same n = grind (arith, nat_tests)
 
 -- one more step of a core, for which there is room

@@ -18,10 +18,7 @@ use Rattle.armcaps_text.specs.declared.kind.TextKind.TheVariants as kind
 use Rattle.armcaps_text.specs.declared.kind.TextRefused.{TextRefused}
 use Rattle.armcaps_text.specs.declared.kind.TextRefused.TheVariants as refused
 use Rattle.armcaps_text.specs.declared.line.Line.{Line}
-use Rattle.armcaps_text.specs.Sound.{IsSound}
-use Rattle.armcaps_text.proofs.LastLine.{last_is}
 use Rattle.armcaps_text.proofs.LineByLine.{before-push}
-use Rattle.armcaps_text.proofs.Soundness.{SoFar, sound_at_first, sound_next, sound_last}
 
 -- what is known of a list that is cut before an item
 record Cut {X : Type 0} (xs : List X) (n : ℕ) (x : X) (more : List X) : Type 0 where
@@ -93,7 +90,6 @@ pub record Walked (format : Format) (text rest : List ℕ) (count : ℕ) (kept :
   pub bytes : bytes_of (take count (ended_lines text)) + length rest ≡ length text
   pub few : count + length rest ≤ length text
   pub within : count ≤ length (ended_lines text)
-  pub sound : SoFar format kept
 
 pub starts : (format : Format) (text : List ℕ) → Walked format text text 0 (before [])
 starts format text = record {
@@ -103,7 +99,6 @@ starts format text = record {
   bytes = omega arith;
   few = omega arith;
   within = omega arith;
-  sound = sound_at_first format;
 }
 
 -- what is kept is what the lines read say
@@ -152,7 +147,6 @@ goes_on format text rest after count kept now line walked h sizes kind last lear
       bytes = omega (arith, walked.bytes, sizes, counted, one, taken);
       few = omega (arith, walked.few, sizes);
       within = omega (arith, cut.within);
-      sound = subst (λ (one : Before). SoFar format one) (sym learns) (sound_next format kept (line_of format line) kind walked.sound);
     }
 
 -- the text ends at the next line
@@ -197,13 +191,6 @@ read unended header format text rest after count kept now line walked h sizes ki
     ap (outcome_at unended header (ended_lines text) format) found
     ∙ ap (λ (one : Option TextKind). refused_or (count + 2) one (Reads (reading_after (before (take (count + 1) (said format text)))) (bytes_of (header ∷ take (count + 1) (ended_lines text))))) here
     ∙ (λ i. Reads (reading_after (all i)) (bytes i))
-
--- what is read so is sound
-pub sound_there : (format : Format) (text rest : List ℕ) (count : ℕ) (kept now : Before) (line : List ℕ) → format.cores ≤ 512 → Walked format text rest count kept → kind_after format kept (line_of format line) ≡ None → is_last (line_of format line) ≡ true → now ≡ learned kept (line_of format line) → IsSound (reading_after now)
-sound_there format text rest count kept now line limit walked kind last learns =
-    let image = last_is (line_of format line) last in
-    subst (λ (one : Before). IsSound (reading_after one)) (sym (learns ∙ ap (learned kept) image.1))
-    (sound_last format kept image.0 limit (ap (kind_after format kept) (sym image.1) ∙ kind) walked.sound)
 
 -- no line is left
 pub ended : (unended : TextKind) (header : List ℕ) (format : Format) (text rest : List ℕ) (count : ℕ) (kept : Before) → Walked format text rest count kept → ended_lines rest ≡ [] → outcome_after unended header (ended_lines text) format ≡ Refuses (count + 2) unended

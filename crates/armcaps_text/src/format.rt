@@ -16,7 +16,7 @@ pub struct Format {
 }
 
 impl Format {
-    ghost use Rattle.std.specs.Prelude.{◌≡◌, ◌≤◌, IfSome};
+    ghost use Rattle.std.specs.Prelude.{◌≡◌};
     ghost use Rattle.armcaps_text.specs.Formats.{format_one, format_two, format_named, format_of};
 
     /// Format 1.
@@ -46,8 +46,7 @@ impl Format {
     /// The format that line 1 of a text names; `None` where it is no header.
     #[tactic(auto, unfolding(crate::specs::Formats::format_named, crate::specs::Tokens::tokens_of))]
     pub(crate) fn named(line: &[u8]) -> Option<Self>
-        ensures named { result ≡ format_named line.now }
-        ensures limit { IfSome result (λ format. format.cores ≤ 512) }
+        ensures { result ≡ format_named line.now }
     {
         let tokens = Tokens::of(line);
         if tokens.count != 2 || tokens.word != b"armcaps".as_slice() {

@@ -6,6 +6,7 @@ mod form;
 mod format;
 mod kind;
 mod kinds;
+pub mod laws;
 mod line;
 mod lines;
 mod machine;

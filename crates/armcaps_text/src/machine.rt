@@ -53,11 +53,9 @@ fn read_lines(
     text: &[u8],
     unended: TextKind,
 ) -> Result<(Machine, usize), TextRefused>
-    requires limit { format.cores ≤ 512 }
     requires length { length text.now ≤ 1_048_576 }
     ensures reads { IfOk result (λ read. (header : List ℕ) → outcome_after unended header (ended_lines text.now) format ≡ Reads (reading_of read.0) (length header + 1 + read.1)) }
     ensures place { IfOk result (λ read. read.1 ≤ length text.now) }
-    ensures sound { IfOk result (λ read. IsSound (reading_of read.0)) }
     ensures refuses { IfErr result (λ refused. (header : List ℕ) → IsRefusal (outcome_after unended header (ended_lines text.now) format) refused) }
 {
     let mut reader = Reader::new(alloc);
@@ -84,8 +82,9 @@ fn read_lines(
 impl Machine {
     /// Reads the machine text at the beginning of the bytes, and says how many of them it takes. What follows its last
     /// line is not looked at, but that it is there decides whether a text that does not end is cut off or too long. A text
-    /// is refused at the first line where some kind holds, with the lowest kind there. Memory may run out on any text. The
-    /// boot core of a machine that is read is one of its cores, and its table of alternatives lies in its image.
+    /// is refused at the first line where some kind holds, with the lowest kind there. Memory may run out on any text.
+    /// What is read is sound: the boot core is one of the cores, the steps are in order and complete, no override is of a
+    /// row of CTR_EL0, and the table of alternatives lies in the image.
     #[tactic(auto, unfolding(crate::specs::Document::outcome))]
     pub fn read(alloc: Global, bytes: &[u8]) -> Result<(Machine, usize), TextRefused>
         ensures reads { IfOk result (λ read. outcome bytes.now ≡ Reads (reading_of read.0) read.1) }

@@ -4,15 +4,14 @@ use Rattle.std.specs.List.{All}
 use Rattle.std.proofs.lemmas.Result.{err_from_is_err_and}
 use Rattle.armcaps_alt.specs.Names.{IsKnown}
 use Rattle.armcaps_text.specs.Before.{Before}
-use Rattle.armcaps_text.specs.Document.{Reading, Reads}
+use Rattle.armcaps_text.specs.Document.{Reads}
 use Rattle.armcaps_text.specs.Kinds.{kind_after}
 use Rattle.armcaps_text.specs.Learned.{learned}
 use Rattle.armcaps_text.specs.Meaning.{line_of, is_last}
 use Rattle.armcaps_text.specs.Reader.{kept}
-use Rattle.armcaps_text.specs.Sound.{IsSound}
 use Rattle.armcaps_text.proofs.KnownNames.{numbers_known}
 use Rattle.armcaps_text.proofs.LastLine.{boot_known, image_known}
-use Rattle.armcaps_text.proofs.Walk.{Walked, starts, sound_there, learnt_next, goes_on, read, ended, refused_there}
+use Rattle.armcaps_text.proofs.Walk.{Walked, starts, learnt_next, goes_on, read, ended, refused_there}
 use Rattle.armcaps_text.proofs.machine.read_lines.Goals as goal
 
 pub loop-line-init : goal.loop-line-init
@@ -49,14 +48,6 @@ returns-in-Ok-clause-reads c = λ header.
     (ap is_last (sym c.of-line.ensures) ∙ sym c.is_last.ensures ∙ c.if-is_last.true)
     (c.in_ok-take.ensures.kept ∙ ap (learned (kept c.loop-line.reader)) c.of-line.ensures)
     ∙ ap (λ (reading : _). Reads reading (length header + 1 + (length c.args.text.now - length c.in-Some.after.now))) (sym c.in-Ok.ensures)
-
-pub returns-in-Ok-clause-sound : goal.returns-in-Ok-clause-sound
-returns-in-Ok-clause-sound c =
-    subst (λ (reading : Reading). IsSound reading) (sym c.in-Ok.ensures)
-    (sound_there c.args.format c.args.text.now _ _ (kept c.loop-line.reader) (kept c.take.new.self) c.in-Some.line.now c.requires.limit c.loop-line.invariant
-    (ap (kind_after c.args.format (kept c.loop-line.reader)) (sym c.of-line.ensures) ∙ c.in_ok-take.ensures.kind)
-    (ap is_last (sym c.of-line.ensures) ∙ sym c.is_last.ensures ∙ c.if-is_last.true)
-    (c.in_ok-take.ensures.kept ∙ ap (learned (kept c.loop-line.reader)) c.of-line.ensures))
 
 pub loop-line-preserved : goal.loop-line-preserved
 loop-line-preserved c =
