@@ -12,7 +12,7 @@ use Rattle.armcaps_caps.specs.Capabilities.{core_has_capability, capability_over
 use Rattle.armcaps_hwcap.specs.Hwcaps.{core_has_hwcap, hwcap_over}
 use Rattle.armcaps_boot.specs.declared.cause.Cause.{Cause}
 use Rattle.armcaps_boot.specs.declared.cause.Cause.TheVariants.{Asid, Cap, Hwcap, Vector}
-use Rattle.armcaps_boot.specs.Numbers.{first_of}
+use Rattle.armcaps_boot.specs.Numbers.{capability_count, first_of, hwcap_count}
 
 -- the number of a core's ASID bits (Arm ARM DDI 0487, ID_AA64MMFR0_EL1, ASIDBits): 2 means 16, and any other value counts as 8
 abbrev pub asid_bits : Core → ℕ
@@ -49,22 +49,32 @@ is_system_length overrides boot early length =
 
 -- the first capability of those in a scope with which a core is in conflict
 abbrev pub first_conflict : (ℕ → Bool) → (ℕ → Bool) → (ℕ → Bool) → Option ℕ
-first_conflict scope enabled has = first_of 0 53 (λ number. scope number && conflicts number (enabled number) (has number))
+first_conflict scope enabled has = first_of 0 capability_count (λ number. scope number && conflicts number (enabled number) (has number))
 
--- the early cause of a core: fewer ASID bits than the boot core's, or else the first capability of boot scope with which it
--- is in conflict
+-- the cause of a core at its check: fewer ASID bits than the boot core's, or else the capability with which it is in conflict
+abbrev pub cause_of_check : Core → Core → Option ℕ → Option Cause
+cause_of_check boot core conflict = if nat_lt (asid_bits core) (asid_bits boot) then Some Asid else option_map Cap conflict
+
+-- the early cause of a core: its cause at its check, by the first capability of boot scope with which it is in conflict
 unfoldable pub early_cause : FieldOverrides → Core → Core → Option Cause
 early_cause overrides boot core =
-    if nat_lt (asid_bits core) (asid_bits boot) then Some Asid
-    else option_map Cap (first_conflict is_boot_scope (has_capability overrides boot boot) (has_capability overrides boot core))
+    cause_of_check boot core (first_conflict is_boot_scope (has_capability overrides boot boot) (has_capability overrides boot core))
+
+-- the cause of a core that is verified: a capability with which it is in conflict, or else a hwcap that it lacks, or else a
+-- vector length that it lacks
+abbrev pub cause_of_lack : Option ℕ → Option ℕ → Option ℕ → Option Cause
+cause_of_lack conflict hwcap length = option_or (option_map Cap conflict) (option_or (option_map Hwcap hwcap) (option_map Vector length))
+
+-- the first of those that a core lacks, where it is told what there is and what the core has
+abbrev pub first_lacking : ℕ → ℕ → (ℕ → Bool) → (ℕ → Bool) → Option ℕ
+first_lacking from count told has = first_of from count (λ number. told number && not (has number))
 
 -- the first reason why a core does not fit a system that has these capabilities, hwcaps and vector lengths: a capability of
 -- another scope with which it is in conflict, or else a hwcap that it lacks, or else a vector length that it lacks
 unfoldable pub first_lack : (ℕ → Bool) → (ℕ → Bool) → (ℕ → Bool) → FieldOverrides → Core → Core → Option Cause
 first_lack enabled advertised told overrides boot core =
-    option_or (option_map Cap (first_conflict (λ number. not (is_boot_scope number)) enabled (has_capability overrides boot core)))
-    (option_or (option_map Hwcap (first_of 0 57 (λ index. advertised index && not (core_has_hwcap overrides core index))))
-    (option_map Vector (first_of 1 16 (λ length. told length && not (has_length core.lengths length)))))
+    cause_of_lack (first_conflict (λ number. not (is_boot_scope number)) enabled (has_capability overrides boot core))
+    (first_lacking 0 hwcap_count advertised (core_has_hwcap overrides core)) (first_lacking 1 16 told (has_length core.lengths))
 
 -- the late cause of a core, over the early cores
 abbrev pub late_cause : FieldOverrides → Core → List Core → Core → Option Cause
@@ -80,5 +90,5 @@ stops_machine (Vector length) = false
 
 -- a capability that a cause names is in the table
 abbrev pub IsNumbered : Cause → Type 0
-IsNumbered (Cap number) = number < 53
+IsNumbered (Cap number) = number < capability_count
 IsNumbered _ = Unit {0}

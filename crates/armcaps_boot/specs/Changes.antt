@@ -1,5 +1,5 @@
 -- What a step changes in a machine.
-use Rattle.std.specs.Prelude.{ℕ, Bool, true, false, ◌&&◌, ◌||◌, if◌then◌else◌, List, Some, Ok, Err, slice_set, bit_and}
+use Rattle.std.specs.Prelude.{ℕ, Bool, true, false, ◌&&◌, ◌||◌, if◌then◌else◌, List, Option, Some, None, Ok, Err, slice_set, bit_and}
 use Rattle.armcaps_enc.specs.declared.register.SysReg.TheVariants.{CtrEl0}
 use Rattle.armcaps_tables.specs.Core.{word_at}
 use Rattle.armcaps_sanit.specs.System.{merged_words}
@@ -15,17 +15,17 @@ use Rattle.armcaps_boot.specs.declared.reply.Reply.{Reply}
 use Rattle.armcaps_boot.specs.declared.reply.Reply.TheVariants.{Done, Parked, Panicked}
 use Rattle.armcaps_boot.specs.Answers.{Answer}
 use Rattle.armcaps_boot.specs.Causes.{has_capability, capability_enabled, hwcap_advertised, sve_capability}
-use Rattle.armcaps_boot.specs.Numbers.{numbers, is_in}
+use Rattle.armcaps_boot.specs.Numbers.{capability_count, numbers, is_in}
 use Rattle.armcaps_boot.specs.States.{past_of}
 use Rattle.armcaps_boot.specs.World.{World, core_at, state_at, boot_of, early_cores}
 
--- the core that a step is of, and 0 for finalisation, which is of none and holds none back
-abbrev pub core_of : Event → ℕ
-core_of (Check number) = number
-core_of (Local number) = number
-core_of (Store number) = number
-core_of (Offline number) = number
-core_of Finalise = 0
+-- the core that a step is of, if it is of one
+abbrev pub core_of : Event → Option ℕ
+core_of (Check number) = Some number
+core_of (Local number) = Some number
+core_of (Store number) = Some number
+core_of (Offline number) = Some number
+core_of Finalise = None
 
 -- a core has another state
 abbrev pub with_state : World → ℕ → CoreState → World
@@ -45,7 +45,7 @@ gone_after _ = Gone false
 -- the capabilities noted, with the local ones that one more core has
 abbrev pub noted_with : World → ℕ → List Bool
 noted_with world number =
-    numbers 53 (λ n. is_in world.noted n || (is_local_scope n && has_capability world.overrides (boot_of world) (core_at world.cores number) n))
+    numbers capability_count (λ n. is_in world.noted n || (is_local_scope n && has_capability world.overrides (boot_of world) (core_at world.cores number) n))
 
 abbrev pub checked_world : World → ℕ → World
 checked_world world number = with_state world number (Checked (past_of (state_at world.states number)))
@@ -68,7 +68,7 @@ left_world world number = with_state world number (gone_after (past_of (state_at
 abbrev pub final_world : World → World
 final_world world = record world {
   final = true;
-  enabled = numbers 53 (capability_enabled world.overrides (boot_of world) (early_cores world));
+  enabled = numbers capability_count (capability_enabled world.overrides (boot_of world) (early_cores world));
   hwcaps = record {
     hwcap = hwcap_word (hwcap_advertised world.overrides (early_cores world));
     hwcap2 = hwcap2_word (hwcap_advertised world.overrides (early_cores world));
@@ -85,10 +85,10 @@ done_world world (Store number) = stored_world world number
 done_world world (Offline number) = left_world world number
 done_world world Finalise = final_world world
 
--- a step that holds a core back, or is skipped
-abbrev pub held_world : World → ℕ → Reply → World
-held_world world number (Parked cause) = with_state world number (IsParked cause)
-held_world world number (Panicked cause) =
+-- a step that holds its core back, or is skipped
+abbrev pub held_world : World → Option ℕ → Reply → World
+held_world world (Some number) (Parked cause) = with_state world number (IsParked cause)
+held_world world (Some number) (Panicked cause) =
     record (with_state world number (HasPanicked cause)) { halted = Some (record { core = number; cause = cause }) }
 held_world world number _ = world
 

@@ -13,7 +13,7 @@ use Rattle.armcaps_boot.specs.declared.core_state.CoreState.TheVariants.{Admitte
 use Rattle.armcaps_boot.specs.declared.halt.Halt.{Halt}
 use Rattle.armcaps_boot.specs.Causes.{has_capability, capability_enabled, hwcap_advertised, is_system_length, has_length, early_cause, late_cause, stops_machine}
 use Rattle.armcaps_boot.specs.Choosing.{chosen}
-use Rattle.armcaps_boot.specs.Numbers.{numbers}
+use Rattle.armcaps_boot.specs.Numbers.{capability_count, numbers}
 use Rattle.armcaps_boot.specs.States.{is_admitted, is_early, is_late, is_updated, has_passed}
 use Rattle.armcaps_boot.specs.World.{World, core_at, state_at, boot_of, admitted_cores, early_cores}
 
@@ -49,15 +49,15 @@ pub record IsHalt (halted : Option Halt) (states : List CoreState) : Type 0 wher
 
 -- before finalisation
 pub record IsGathering (world : World) : Type 0 where
-  pub noted : world.noted ≡ numbers 53 (λ n. is_local_scope n && list_any (λ core. has_capability world.overrides (boot_of world) core n) (noted_cores world))
-  pub enabled : world.enabled ≡ numbers 53 (λ n. is_boot_scope n && has_capability world.overrides (boot_of world) (boot_of world) n)
+  pub noted : world.noted ≡ numbers capability_count (λ n. is_local_scope n && list_any (λ core. has_capability world.overrides (boot_of world) core n) (noted_cores world))
+  pub enabled : world.enabled ≡ numbers capability_count (λ n. is_boot_scope n && has_capability world.overrides (boot_of world) (boot_of world) n)
   pub hwcaps : world.hwcaps ≡ record { hwcap = 0; hwcap2 = 0 }
   pub kept : (length : ℕ) → has_length world.kept length ≡ list_all (λ core. has_length core.lengths length) (early_cores world)
   pub lengths : world.lengths ≡ 0
 
 -- after finalisation
 pub record IsDecided (world : World) : Type 0 where
-  pub enabled : world.enabled ≡ numbers 53 (capability_enabled world.overrides (boot_of world) (early_cores world))
+  pub enabled : world.enabled ≡ numbers capability_count (capability_enabled world.overrides (boot_of world) (early_cores world))
   pub hwcaps : world.hwcaps ≡ record {
     hwcap = hwcap_word (hwcap_advertised world.overrides (early_cores world));
     hwcap2 = hwcap2_word (hwcap_advertised world.overrides (early_cores world));

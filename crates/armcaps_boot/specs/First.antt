@@ -7,7 +7,7 @@ use Rattle.armcaps_caps.specs.Capabilities.{is_boot_scope, is_local_scope}
 use Rattle.armcaps_boot.specs.declared.core_state.CoreState.{CoreState}
 use Rattle.armcaps_boot.specs.declared.core_state.CoreState.TheVariants.{Absent, Admitted}
 use Rattle.armcaps_boot.specs.Causes.{has_capability}
-use Rattle.armcaps_boot.specs.Numbers.{numbers}
+use Rattle.armcaps_boot.specs.Numbers.{capability_count, numbers}
 use Rattle.armcaps_boot.specs.World.{World, core_at}
 
 -- only the boot core is admitted
@@ -24,8 +24,8 @@ first_world cores boot overrides = record {
   states = first_states (length cores) boot;
   halted = None;
   final = false;
-  noted = numbers 53 (λ n. is_local_scope n && has_capability overrides (core_at cores boot) (core_at cores boot) n);
-  enabled = numbers 53 (λ n. is_boot_scope n && has_capability overrides (core_at cores boot) (core_at cores boot) n);
+  noted = numbers capability_count (λ n. is_local_scope n && has_capability overrides (core_at cores boot) (core_at cores boot) n);
+  enabled = numbers capability_count (λ n. is_boot_scope n && has_capability overrides (core_at cores boot) (core_at cores boot) n);
   hwcaps = record { hwcap = 0; hwcap2 = 0 };
   ctr = 0;
   kept = (core_at cores boot).lengths;

@@ -1,7 +1,7 @@
 -- What contracts see of a machine as the code keeps it.
 use Rattle.armcaps_caps.specs.Set.{holds}
 use Rattle.armcaps_boot.specs.declared.machine.Machine.{Machine}
-use Rattle.armcaps_boot.specs.Numbers.{numbers}
+use Rattle.armcaps_boot.specs.Numbers.{capability_count, numbers}
 use Rattle.armcaps_boot.specs.World.{World}
 
 abbrev pub world_of : Machine → World
@@ -13,8 +13,8 @@ world_of machine = record {
   states = machine.states.items;
   halted = machine.halted;
   final = machine.is_final;
-  noted = numbers 53 (holds machine.noted);
-  enabled = numbers 53 (holds machine.enabled);
+  noted = numbers capability_count (holds machine.noted);
+  enabled = numbers capability_count (holds machine.enabled);
   hwcaps = machine.hwcaps;
   ctr = machine.ctr;
   kept = machine.kept;

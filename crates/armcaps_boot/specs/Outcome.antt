@@ -9,6 +9,7 @@ use Rattle.armcaps_boot.specs.declared.event.Event.{Event}
 use Rattle.armcaps_boot.specs.Admission.{Board, came_early, early_cause_of, early_of, has_come, is_among_admitted, late_cause_of}
 use Rattle.armcaps_boot.specs.After.{state_of}
 use Rattle.armcaps_boot.specs.Causes.{capability_enabled, has_capability}
+use Rattle.armcaps_boot.specs.Numbers.{capability_count}
 use Rattle.armcaps_boot.specs.Steps.{last_step}
 use Rattle.armcaps_boot.specs.World.{core_at}
 
@@ -48,8 +49,8 @@ IsAdmittedOrParked board past core =
 -- what can be relied on: each system feature that is enabled is had by each admitted core, each workaround that an admitted
 -- core needs is enabled, and no core is held back but by its first cause
 pub record IsSafe (board : Board) (past : List Event) : Type 0 where
-  pub supported : (number core : ℕ) → number < 53 → is_system_scope number ≡ true → is_enabled_of board past number ≡ true
+  pub supported : (number core : ℕ) → number < capability_count → is_system_scope number ≡ true → is_enabled_of board past number ≡ true
       → is_among_admitted board past core ≡ true → has_capability_of board core number ≡ true
-  pub needed : (number core : ℕ) → number < 53 → is_erratum_class number ≡ true → is_among_admitted board past core ≡ true
+  pub needed : (number core : ℕ) → number < capability_count → is_erratum_class number ≡ true → is_among_admitted board past core ≡ true
       → has_capability_of board core number ≡ true → is_enabled_of board past number ≡ true
   pub held : (core : ℕ) → core < length board.cores → is_some (last_step core past) ≡ true → IsAdmittedOrParked board past core

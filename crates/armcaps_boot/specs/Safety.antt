@@ -2,6 +2,7 @@
 use Rattle.std.specs.Prelude.{◌≡◌, ℕ, Bool, true, ◌&&◌, nat_lt}
 use Rattle.armcaps_caps.specs.Capabilities.{is_boot_scope}
 use Rattle.armcaps_boot.specs.Causes.{has_capability, capability_enabled}
+use Rattle.armcaps_boot.specs.Numbers.{capability_count}
 use Rattle.armcaps_boot.specs.States.{is_admitted}
 use Rattle.armcaps_boot.specs.World.{World, boot_of, core_at, state_at, early_cores}
 
@@ -19,4 +20,4 @@ is_enabled world number = capability_enabled world.overrides (boot_of world) (ea
 
 -- whether a capability is enabled before finalisation
 abbrev pub is_enabled_at_first : World → ℕ → Bool
-is_enabled_at_first world number = nat_lt number 53 && is_boot_scope number && has_capability world.overrides (boot_of world) (boot_of world) number
+is_enabled_at_first world number = nat_lt number capability_count && is_boot_scope number && has_capability world.overrides (boot_of world) (boot_of world) number

@@ -11,8 +11,8 @@ use Rattle.armcaps_hwcap.specs.Hwcaps.{core_has_hwcap}
 use Rattle.armcaps_hwcap.specs.Words.{set_has_row}
 use Rattle.armcaps_boot.specs.declared.cause.Cause.{Cause}
 use Rattle.armcaps_boot.specs.declared.cause.Cause.TheVariants.{Asid, Cap, Hwcap, Vector}
-use Rattle.armcaps_boot.specs.Causes.{asid_bits, has_length}
-use Rattle.armcaps_boot.specs.Numbers.{first_of}
+use Rattle.armcaps_boot.specs.Causes.{cause_of_check, cause_of_lack, first_conflict, first_lacking, has_length}
+use Rattle.armcaps_boot.specs.Numbers.{hwcap_count}
 
 -- whether a capability is of boot scope, or is not
 abbrev pub in_scope : Bool → ℕ → Bool
@@ -33,16 +33,15 @@ enabled_by enabled noted words number =
 -- the first conflict with a set of capabilities
 unfoldable pub conflict_with : Bool → ℕ → FieldOverrides → Core → Core → ℕ → Option ℕ
 conflict_with boot_scope enabled overrides boot core ctr =
-    first_of 0 53 (λ n. in_scope boot_scope n && conflicts n (holds enabled n) (core_has_capability overrides boot ctr core n))
+    first_conflict (in_scope boot_scope) (holds enabled) (core_has_capability overrides boot ctr core)
 
 -- the first lack of what a system has
 unfoldable pub lack_of : ℕ → HwSet → ℕ → FieldOverrides → Core → Core → ℕ → Option Cause
 lack_of enabled hwcaps lengths overrides boot core ctr =
-    option_or (option_map Cap (conflict_with false enabled overrides boot core ctr))
-    (option_or (option_map Hwcap (first_of 0 57 (λ index. set_has_row hwcaps index && not (core_has_hwcap overrides core index))))
-    (option_map Vector (first_of 1 16 (λ length. has_length lengths length && not (has_length core.lengths length)))))
+    cause_of_lack (conflict_with false enabled overrides boot core ctr)
+    (first_lacking 0 hwcap_count (set_has_row hwcaps) (core_has_hwcap overrides core)) (first_lacking 1 16 (has_length lengths) (has_length core.lengths))
 
 -- what holds a core back at its check
 unfoldable pub held_at_check : ℕ → FieldOverrides → Core → Core → ℕ → Option Cause
 held_at_check enabled overrides boot core ctr =
-    if nat_lt (asid_bits core) (asid_bits boot) then Some Asid else option_map Cap (conflict_with true enabled overrides boot core ctr)
+    cause_of_check boot core (conflict_with true enabled overrides boot core ctr)

@@ -292,7 +292,7 @@ impl Machine {
         requires within { core < length self.old.states.items }
         requires numbered { IsNumbered cause }
         ensures answer { Ok result ≡ answers.judged (Some cause) }
-        ensures after { world_of self.new ≡ changes.held_world (world_of self.old) core result }
+        ensures after { world_of self.new ≡ changes.held_world (world_of self.old) (Some core) result }
     {
         if stops_machine(cause) {
             self.states[core as usize] = CoreState::Panicked(cause);
