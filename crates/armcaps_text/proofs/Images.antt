@@ -3,7 +3,7 @@ use Rattle.std.proofs.Common.{◌≡◌, ℕ, suc, zero, ◌≤◌, ◌^◌, Boo
 use Rattle.std.specs.List.{slice_get}
 use Rattle.std.specs.Option.{option_map_or, ok_or}
 use Rattle.std.proofs.lemmas.Bool.Decides.{nat_tests}
-use Rattle.armcaps_text.specs.Arguments.{and_then, has_count, core_argument, word_argument, lengths_argument, number_arguments, given_arguments, conduit_argument, callback_arguments, table_arguments, image_argument}
+use Rattle.armcaps_text.specs.Arguments.{and_then, has_count, core_argument, word_argument, lengths_argument, number_arguments, given_arguments, conduit_argument, callback_arguments, table_arguments}
 use Rattle.armcaps_text.specs.Formats.{format_one, format_two, is_header, format_named}
 use Rattle.armcaps_text.specs.Forms.{form_of}
 use Rattle.armcaps_text.specs.Meaning.{formed, meaning_of, line_of}

@@ -1,5 +1,5 @@
 -- What reads is sound, and stands within its input.
-use Rattle.std.proofs.Common.{◌≡◌, ℕ, zero, suc, ◌+◌, ◌-◌, ◌<◌, ◌≤◌, ◌^◌, ◌==◌, ◌||◌, Bool, true, false, cond, List, [], ◌∷◌, ◌++◌, length, map, take, find, sum_by, Option, Some, None, is_some, option_and_then, refl, sym, ap, subst, ◌∙◌, arith}
+use Rattle.std.proofs.Common.{◌≡◌, ℕ, zero, suc, ◌+◌, ◌<◌, ◌≤◌, ◌^◌, ◌==◌, ◌||◌, Bool, true, false, cond, List, [], ◌∷◌, ◌++◌, length, map, take, find, Option, Some, None, is_some, option_and_then, refl, sym, ap, subst, ◌∙◌, arith}
 use Rattle.std.proofs.lemmas.List.{length-map}
 use Rattle.std.specs.List.{range_with_len, slice_get, slice_split, onto_first}
 use Rattle.std.specs.Option.{option_map_or}
@@ -8,7 +8,7 @@ use Rattle.std.proofs.lemmas.Bool.Decides.{nat_tests}
 use Rattle.std.proofs.lemmas.List.Splits.{slice_split-cons_yes, slice_split-cons_no, length-slice_split}
 use Rattle.std.proofs.lemmas.List.Sums.{sum_by-cons, sum_by-take-le}
 use Rattle.armcaps_text.specs.Before.{Before, before}
-use Rattle.armcaps_text.specs.Document.{Reading, Outcome, Reads, Refuses, bytes_of, ends_at, kind_at, refused_or, outcome_at, outcome_after, reading_after, unended_kind, outcome_of_lines, outcome}
+use Rattle.armcaps_text.specs.Document.{Reading, Reads, Refuses, bytes_of, ends_at, kind_at, refused_or, outcome_at, outcome_after, reading_after, unended_kind, outcome_of_lines, outcome}
 use Rattle.armcaps_text.specs.Formats.{format_named}
 use Rattle.armcaps_text.specs.Kinds.{kind_after}
 use Rattle.armcaps_text.specs.Learned.{learned}

@@ -1,10 +1,10 @@
 -- What holds of what lines without a kind come to.
-use Rattle.std.proofs.Common.{◌≡◌, ℕ, ◌+◌, ◌*◌, ◌^◌, ◌<◌, ◌≤◌, ◌==◌, ◌&&◌, ◌||◌, not, Bool, true, false, nat_lt, nat_le, List, [], ◌∷◌, ◌++◌, length, Option, Some, None, is_none, option_and_then, unwrap_or, refl, sym, ap, subst, ◌∙◌, arith, length-append, append-nil, lit<}
+use Rattle.std.proofs.Common.{◌≡◌, ℕ, ◌+◌, ◌*◌, ◌^◌, ◌<◌, ◌≤◌, ◌==◌, ◌&&◌, ◌||◌, not, Bool, true, false, nat_lt, nat_le, List, [], ◌∷◌, ◌++◌, length, Option, Some, None, is_none, option_and_then, unwrap_or, refl, sym, subst, ◌∙◌, arith, length-append, append-nil, lit<}
 use Rattle.std.specs.Option.{option_map_or, option_or}
 use Rattle.std.proofs.Math.ListN.{length-set}
 use Rattle.std.proofs.lemmas.Bool.Decides.{nat_tests}
 use Rattle.armcaps_alt.specs.declared.table_place.Layout.{Layout}
-use Rattle.armcaps_boot.specs.Order.{is_some_in_flight, in_order, is_complete}
+use Rattle.armcaps_boot.specs.Order.{in_order, is_complete}
 use Rattle.armcaps_boot.specs.Steps.{history}
 use Rattle.armcaps_boot.specs.declared.step_line.StepLine.{StepLine}
 use Rattle.armcaps_cmdline.proofs.Fitting.{command_line_fits, listed}

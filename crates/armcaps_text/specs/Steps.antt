@@ -1,4 +1,5 @@
--- The steps of cores, in the order of their lines.
+-- The steps of cores, in the order of their lines. Whether a core is parked is no part of this: its later steps stand in the text
+-- all the same.
 use Rattle.std.specs.Prelude.{ℕ, ◌==◌, ◌||◌, Bool, true, false, List, find, filter_map, reverse, Option, Some, None}
 use Rattle.std.specs.Option.{option_map_or}
 use Rattle.std.specs.List.{list_any}
@@ -26,7 +27,7 @@ last_step core steps = find (is_step_of core) (reverse steps)
 abbrev pub is_checked : Option StepLine → Bool
 is_checked last = elim last [ Some step ↦ elim step [ Check core ↦ true | _ ↦ false ] | None ↦ false ]
 
--- it has decided for itself, and is not admitted yet
+-- it has made its local step and not its store
 abbrev pub is_decided : Option StepLine → Bool
 is_decided last = elim last [ Some step ↦ elim step [ Local core ↦ true | _ ↦ false ] | None ↦ false ]
 
@@ -34,7 +35,7 @@ is_decided last = elim last [ Some step ↦ elim step [ Local core ↦ true | _ 
 abbrev pub is_begun : Option StepLine → Bool
 is_begun last = is_checked last || is_decided last
 
--- it is admitted
+-- its last step is its store
 abbrev pub is_up : Option StepLine → Bool
 is_up last = elim last [ Some step ↦ elim step [ Store core ↦ true | Online core ↦ true | _ ↦ false ] | None ↦ false ]
 
