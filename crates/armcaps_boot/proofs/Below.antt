@@ -1,13 +1,19 @@
 -- What the crates below say, in the form in which it is used here.
-use Rattle.std.proofs.Common.{◌≡◌, ◌<◌, ℕ, Bool, true, false, List, ◌∷◌, ◌++◌, None, refl, sym, ◌∙◌, arith, length-append}
+use Rattle.std.proofs.Common.{◌≡◌, ◌<◌, ◌≤◌, ◌⊎◌, inl, inr, ℕ, Bool, true, false, List, ◌∷◌, ◌++◌, Option, None, refl, sym, ◌∙◌, ap, arith, length-append}
+use Rattle.std.specs.Option.{option_map_or}
+use Rattle.std.proofs.lemmas.Bool.{cases_lt}
+use Rattle.std.proofs.lemmas.Option.{slice_get_past}
 use Rattle.std.specs.List.{list_any}
 use Rattle.armcaps_enc.specs.declared.register.SysReg.TheVariants.{CtrEl0}
 use Rattle.armcaps_tables.specs.Core.{Core, core_word, word_at}
 use Rattle.armcaps_tables.specs.Overriding.{FieldOverrides, override_of, AllFit}
 use Rattle.armcaps_sanit.specs.System.{IsSystemOf, system_words}
-use Rattle.armcaps_caps.specs.Capabilities.{core_has_capability, is_boot_scope, is_local_scope, is_system_scope, is_permitted, is_optional, is_panic, is_erratum_class}
+use Rattle.armcaps_caps.specs.Capabilities.{core_has_capability, is_boot_scope, is_local_scope, is_system_scope, is_permitted, is_optional, is_panic, is_erratum_class, row_says}
+use Rattle.armcaps_caps.specs.Class.{in_system_scope, works_around}
+use Rattle.armcaps_caps.specs.Row.{Row}
 use Rattle.armcaps_caps.specs.Rows.{capability_rows}
 use Rattle.armcaps_caps.proofs.Classes.{number_holds}
+use Rattle.armcaps_caps.proofs.Listing.{all_listed}
 use Rattle.armcaps_caps.proofs.CacheType.{cache_type_compares}
 
 system_of : (o : FieldOverrides) (before after : List Core) (core : Core) → AllFit o → IsSystemOf o (before ++ core ∷ after) (system_words o (before ++ core ∷ after))
@@ -22,6 +28,23 @@ cache_type_stays o boot core before after fit plain none =
 not_both : (one other : Bool) → (one ≡ true → other ≡ false) → other ≡ true → one ≡ false
 not_both true other h is = absurd (let bad : true ≡ false = sym is ∙ h refl in let no : ⊥ = cc in no)
 not_both false other h is = refl
+
+-- no number past the table is one of a capability
+counted : (number : ℕ) (says : Row → Bool) → row_says says number ≡ true → number < 53
+counted number says is = by (cases_lt number 53) where
+  by : (number < 53) ⊎ (53 ≤ number) → number < 53
+  by (inl within) = within
+  by (inr past) =
+      absurd (let bad : false ≡ true = sym (ap (λ (row : Option Row). option_map_or says row false) (slice_get_past capability_rows number (omega (arith, all_listed)))) ∙ is in
+      let no : ⊥ = cc in no)
+
+pub system_is_counted : (number : ℕ) → is_system_scope number ≡ true → number < 53
+unfolding is_system_scope
+system_is_counted number is = counted number (λ row. in_system_scope row.class) is
+
+pub erratum_is_counted : (number : ℕ) → is_erratum_class number ≡ true → number < 53
+unfolding is_erratum_class
+erratum_is_counted number is = counted number (λ row. works_around row.class) is
 
 pub system_scope_else : (number : ℕ) → number < 53 → is_boot_scope number ≡ false → is_local_scope number ≡ false → is_system_scope number ≡ true
 system_scope_else number within boot local = (number_holds number within).decided boot local

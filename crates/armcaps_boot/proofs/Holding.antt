@@ -11,11 +11,11 @@ use Rattle.armcaps_boot.specs.declared.event.Event.{Event}
 use Rattle.armcaps_boot.specs.declared.event.Event.TheVariants.{Check, Local, Store, Offline, Finalise}
 use Rattle.armcaps_boot.specs.declared.past.Past.{Past}
 use Rattle.armcaps_boot.specs.declared.past.Past.TheVariants.{Never, Early, Late}
-use Rattle.armcaps_boot.specs.Admission.{Board, came_early, early_cause_of, early_of, has_come, held_back, is_among_admitted, is_among_early, late_cause_of, was_verified}
+use Rattle.armcaps_boot.specs.Admission.{Board, came_early, early_cause_of, early_of, has_come, held_back, is_among_admitted, is_among_early, is_among_late, late_cause_of, was_verified}
 use Rattle.armcaps_boot.specs.After.{past_from, state_from, state_of}
 use Rattle.armcaps_boot.specs.Causes.{late_cause, stops_machine}
 use Rattle.armcaps_boot.specs.Order.{in_order, is_up_last}
-use Rattle.armcaps_boot.specs.States.{is_admitted, is_admitted_past, is_early, is_early_past, past_of}
+use Rattle.armcaps_boot.specs.States.{is_admitted, is_admitted_past, is_early, is_early_past, is_late, is_late_past, past_of}
 use Rattle.armcaps_boot.specs.Steps.{is_final, is_step_of, last_step}
 use Rattle.armcaps_boot.specs.World.{core_at}
 use Rattle.armcaps_boot.proofs.ChosenCores.{chosen-same}
@@ -190,6 +190,18 @@ shown_is_admitted None verified false true (Some cause) = refl
 shown_is_admitted None verified false true None = refl
 shown_is_admitted None verified false false late = refl
 
+shown_is_late : (early : Option Cause) (verified came has : Bool) (late : Option Cause)
+    → is_late_past (shown early verified came has late) ≡ (has && not came && is_none early && is_none late)
+shown_is_late (Some cause) verified true true late = refl
+shown_is_late (Some cause) verified true false late = refl
+shown_is_late (Some cause) verified false true late = refl
+shown_is_late (Some cause) verified false false late = refl
+shown_is_late None verified true true late = refl
+shown_is_late None verified true false late = refl
+shown_is_late None verified false true (Some cause) = refl
+shown_is_late None verified false true None = refl
+shown_is_late None verified false false late = refl
+
 -- the state of a core that is not the boot core
 pub state_of-other : (board : Board) (p : List Event) (k : ℕ) → (k == board.boot) ≡ false
     → state_of board p k ≡ state_from (last_step k p) (held_back board p k) (past_from k p)
@@ -230,4 +242,17 @@ admitted_by_state board p k order within = by (k == board.boot) refl where
   by false other =
       ap is_admitted_past (past_of_state board p k order within other)
       ∙ shown_is_admitted (early_cause_of board k) (was_verified k p) (came_early k p) (has_come k p) (late_cause_of board p k)
+      ∙ sym (ap among other)
+
+pub late_by_state : (board : Board) (p : List Event) (k : ℕ) → in_order (length board.cores) board.boot p ≡ true → k < length board.cores
+    → is_late (state_of board p k) ≡ is_among_late board p k
+late_by_state board p k order within = by (k == board.boot) refl where
+  among : Bool → Bool
+  among b = not b && has_come k p && not (came_early k p) && is_none (early_cause_of board k) && is_none (late_cause_of board p k)
+
+  by : (b : Bool) → (k == board.boot) ≡ b → is_late (state_of board p k) ≡ is_among_late board p k
+  by true here = ap is_late (state_of-boot board p k here) ∙ sym (ap among here)
+  by false other =
+      ap is_late_past (past_of_state board p k order within other)
+      ∙ shown_is_late (early_cause_of board k) (was_verified k p) (came_early k p) (has_come k p) (late_cause_of board p k)
       ∙ sym (ap among other)

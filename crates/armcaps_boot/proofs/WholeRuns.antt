@@ -27,6 +27,7 @@ use Rattle.armcaps_boot.specs.Steps.{is_final, last_step}
 use Rattle.armcaps_boot.specs.World.{World, boot_of, core_at, early_cores, state_at}
 use Rattle.armcaps_boot.proofs.Answering.{IsHeldIn, IsTurnIn, early_cores_are, held_in, past_in, states_set}
 use Rattle.armcaps_boot.proofs.Beginning.{first_facts}
+use Rattle.armcaps_boot.proofs.Below.{erratum_is_counted, system_is_counted}
 use Rattle.armcaps_boot.proofs.CoreAnswers.{step_after, step_answered}
 use Rattle.armcaps_boot.proofs.Histories.{and_left, and_right, course, early_came, is_gone_last, none_in_flight, not_true, on_either, turn_of}
 use Rattle.armcaps_boot.proofs.Holding.{admitted_by_state, held_from, held_is, not_finalise, other_number, past_by, state_of-boot, state_of-other}
@@ -182,17 +183,17 @@ held_rightly board p w k r stepped begun = by (held_back board p k) refl where
     on : (early_cause_of board k ≡ Some cause) ⊎ ((early_cause_of board k ≡ None) × (came_early k p ≡ false) × (late_cause_of board p k ≡ Some cause))
         → IsAdmittedOrParked board p k
     on (inl early) = inr (inl (cause, (early, sym shown_state ∙ h.parked)))
-    on (inr late) = inr (inr (cause, record { came = come; late = late.1; not_early = late.0; cause_is = late.2; parked = sym shown_state ∙ h.parked }))
+    on (inr late) = inr (inr (cause, record { came = come; late = late.1; no_early_cause = late.0; late_cause = late.2; parked = sym shown_state ∙ h.parked }))
 
 pub safe : (board : Board) (p : List Event) → IsBoard board → in_order (length board.cores) board.boot p ≡ true → is_complete (length board.cores) p ≡ true
     → halt_of board p ≡ None → IsSafe board p
 safe board p b order complete running = record {
-  supported = λ n core within scope on among.
+  supported = λ n core scope on among.
       sym (has_is board p w core n r.after)
-      ∙ enabled_is_supported w r.facts final n within scope (enabled_is board p w n r.after order ∙ on) core (was_admitted board p w core b r.after order among);
-  needed = λ n core within erratum among has.
+      ∙ enabled_is_supported w r.facts final n (system_is_counted n scope) scope (enabled_is board p w n r.after order ∙ on) core (was_admitted board p w core b r.after order among);
+  needed = λ n core erratum among has.
       sym (enabled_is board p w n r.after order)
-      ∙ needed_is_enabled w r.facts final n within erratum core (was_admitted board p w core b r.after order among) (has_is board p w core n r.after ∙ has);
+      ∙ needed_is_enabled w r.facts final n (erratum_is_counted n erratum) erratum core (was_admitted board p w core b r.after order among) (has_is board p w core n r.after ∙ has);
   held = λ core within stepped. by core within stepped (core == board.boot) refl;
 } where
   r : IsReached board p

@@ -1,4 +1,5 @@
--- Which cores are admitted by steps, the newest first, and which are held back, and why.
+-- Which cores are admitted by steps, the newest first, and which are held back, and why (Linux, arch/arm64/kernel/smp.c,
+-- `secondary_start_kernel`, and arch/arm64/kernel/cpufeature.c, `check_local_cpu_capabilities`).
 use Rattle.std.specs.Prelude.{ℕ, ◌==◌, Bool, false, not, ◌&&◌, ◌||◌, if◌then◌else◌, List, [], ◌∷◌, Option, Some, None, is_none, is_some}
 use Rattle.std.specs.List.{list_any}
 use Rattle.std.specs.Option.{option_or}

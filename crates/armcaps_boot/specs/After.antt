@@ -1,4 +1,5 @@
--- What steps bring a machine to, the newest first, and what each of them is answered.
+-- What steps bring a machine to, the newest first, and what each of them is answered (Linux, arch/arm64/kernel/smp.c,
+-- `secondary_start_kernel`, and arch/arm64/kernel/cpufeature.c, `check_local_cpu_capabilities`).
 use Rattle.std.specs.Prelude.{◌≡◌, ℕ, ◌==◌, false, if◌then◌else◌, List, ◌∷◌, length, map, Option, Some, None}
 use Rattle.std.specs.List.{range_with_len}
 use Rattle.armcaps_boot.specs.declared.cause.Cause.{Cause}

@@ -10,11 +10,14 @@ use Rattle.armcaps_tables.specs.Core.{Core, core_word}
 use Rattle.armcaps_tables.specs.Overriding.{FieldOverrides}
 use Rattle.armcaps_caps.specs.Capabilities.{core_has_capability, capability_over, conflicts, is_boot_scope, is_local_scope, is_panic}
 use Rattle.armcaps_hwcap.specs.Hwcaps.{core_has_hwcap, hwcap_over}
+use Rattle.armcaps_caps.specs.Rows.{capability_count}
+use Rattle.armcaps_hwcap.specs.Rows.{hwcap_count}
 use Rattle.armcaps_boot.specs.declared.cause.Cause.{Cause}
 use Rattle.armcaps_boot.specs.declared.cause.Cause.TheVariants.{Asid, Cap, Hwcap, Vector}
-use Rattle.armcaps_boot.specs.Numbers.{capability_count, first_of, hwcap_count}
+use Rattle.armcaps_boot.specs.Numbers.{first_of}
 
--- the number of a core's ASID bits (Arm ARM DDI 0487, ID_AA64MMFR0_EL1, ASIDBits): 2 means 16, and any other value counts as 8
+-- the number of a core's ASID bits (Arm ARM DDI 0487, ID_AA64MMFR0_EL1, ASIDBits): 2 means 16, and any other value counts as 8,
+-- which is this project's own rule
 abbrev pub asid_bits : Core → ℕ
 asid_bits core = if unsigned_field 4 4 (core_word core IdAa64Mmfr0El1) == 2 then 16 else 8
 
@@ -42,7 +45,8 @@ has_length lengths length = bit_at lengths (length - 1) == 1
 abbrev pub sve_capability : ℕ
 sve_capability = 36
 
--- whether vectors of `length` times 128 bits are told to programs: where SVE is enabled and every early core has them
+-- whether vectors of `length` times 128 bits are told to programs: where SVE is enabled and every early core has them:
+-- a rule of this project's own, in outline after Linux's
 abbrev pub is_system_length : FieldOverrides → Core → List Core → ℕ → Bool
 is_system_length overrides boot early length =
     capability_enabled overrides boot early sve_capability && list_all (λ core. has_length core.lengths length) early

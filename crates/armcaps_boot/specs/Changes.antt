@@ -5,6 +5,7 @@ use Rattle.armcaps_tables.specs.Core.{word_at}
 use Rattle.armcaps_sanit.specs.System.{merged_words}
 use Rattle.armcaps_caps.specs.Capabilities.{is_local_scope}
 use Rattle.armcaps_hwcap.specs.Words.{hwcap_word, hwcap2_word}
+use Rattle.armcaps_caps.specs.Rows.{capability_count}
 use Rattle.armcaps_boot.specs.declared.core_state.CoreState.{CoreState}
 use Rattle.armcaps_boot.specs.declared.core_state.CoreState.TheVariants.{Checked, Updated, Admitted, Offline as Gone, Parked as IsParked, Panicked as HasPanicked}
 use Rattle.armcaps_boot.specs.declared.event.Event.{Event}
@@ -15,7 +16,7 @@ use Rattle.armcaps_boot.specs.declared.reply.Reply.{Reply}
 use Rattle.armcaps_boot.specs.declared.reply.Reply.TheVariants.{Done, Parked, Panicked}
 use Rattle.armcaps_boot.specs.Answers.{Answer}
 use Rattle.armcaps_boot.specs.Causes.{has_capability, capability_enabled, hwcap_advertised, sve_capability}
-use Rattle.armcaps_boot.specs.Numbers.{capability_count, numbers, is_in}
+use Rattle.armcaps_boot.specs.Numbers.{numbers, is_in}
 use Rattle.armcaps_boot.specs.States.{past_of}
 use Rattle.armcaps_boot.specs.World.{World, core_at, state_at, boot_of, early_cores}
 

@@ -7,13 +7,14 @@ use Rattle.armcaps_tables.specs.Overriding.{override_of}
 use Rattle.armcaps_sanit.specs.System.{IsSystemOf, system_words}
 use Rattle.armcaps_caps.specs.Capabilities.{is_boot_scope, is_local_scope}
 use Rattle.armcaps_hwcap.specs.Words.{hwcap_word, hwcap2_word}
+use Rattle.armcaps_caps.specs.Rows.{capability_count}
 use Rattle.armcaps_boot.specs.declared.cause.Cause.{Cause}
 use Rattle.armcaps_boot.specs.declared.core_state.CoreState.{CoreState}
 use Rattle.armcaps_boot.specs.declared.core_state.CoreState.TheVariants.{Admitted, Parked, Panicked}
 use Rattle.armcaps_boot.specs.declared.halt.Halt.{Halt}
 use Rattle.armcaps_boot.specs.Causes.{has_capability, capability_enabled, hwcap_advertised, is_system_length, has_length, early_cause, late_cause, stops_machine}
 use Rattle.armcaps_boot.specs.Choosing.{chosen}
-use Rattle.armcaps_boot.specs.Numbers.{capability_count, numbers}
+use Rattle.armcaps_boot.specs.Numbers.{numbers}
 use Rattle.armcaps_boot.specs.States.{is_admitted, is_early, is_late, is_updated, has_passed}
 use Rattle.armcaps_boot.specs.World.{World, core_at, state_at, boot_of, admitted_cores, early_cores}
 

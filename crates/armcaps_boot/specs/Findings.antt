@@ -1,4 +1,4 @@
--- What a machine that was brought up is told of: its board, and the state that each core came to.
+-- What there is to tell of a machine that was brought up: its board, and the state to which each core came.
 use Rattle.std.specs.Prelude.{ℕ, List}
 use Rattle.armcaps_tables.specs.Core.{Core}
 use Rattle.armcaps_tables.specs.Overriding.{FieldOverrides}

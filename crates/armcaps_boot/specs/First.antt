@@ -4,10 +4,11 @@ use Rattle.armcaps_tables.specs.Core.{Core}
 use Rattle.armcaps_tables.specs.Overriding.{FieldOverrides}
 use Rattle.armcaps_sanit.specs.System.{system_words}
 use Rattle.armcaps_caps.specs.Capabilities.{is_boot_scope, is_local_scope}
+use Rattle.armcaps_caps.specs.Rows.{capability_count}
 use Rattle.armcaps_boot.specs.declared.core_state.CoreState.{CoreState}
 use Rattle.armcaps_boot.specs.declared.core_state.CoreState.TheVariants.{Absent, Admitted}
 use Rattle.armcaps_boot.specs.Causes.{has_capability}
-use Rattle.armcaps_boot.specs.Numbers.{capability_count, numbers}
+use Rattle.armcaps_boot.specs.Numbers.{numbers}
 use Rattle.armcaps_boot.specs.World.{World, core_at}
 
 -- only the boot core is admitted

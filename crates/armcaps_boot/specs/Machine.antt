@@ -1,7 +1,8 @@
 -- What contracts see of a machine as the code keeps it.
 use Rattle.armcaps_caps.specs.Set.{holds}
+use Rattle.armcaps_caps.specs.Rows.{capability_count}
 use Rattle.armcaps_boot.specs.declared.machine.Machine.{Machine}
-use Rattle.armcaps_boot.specs.Numbers.{capability_count, numbers}
+use Rattle.armcaps_boot.specs.Numbers.{numbers}
 use Rattle.armcaps_boot.specs.World.{World}
 
 abbrev pub world_of : Machine → World

@@ -2,13 +2,6 @@
 use Rattle.std.specs.Prelude.{ℕ, Bool, false, List, Option, map, find, slice_index_or}
 use Rattle.std.specs.List.{range_with_len}
 
--- how many capabilities and hwcaps there are
-abbrev pub capability_count : ℕ
-capability_count = 53
-
-abbrev pub hwcap_count : ℕ
-hwcap_count = 57
-
 -- the first of so many numbers, from one on, that passes the test
 unfoldable pub first_of : ℕ → ℕ → (ℕ → Bool) → Option ℕ
 first_of from count test = find test (range_with_len from count)

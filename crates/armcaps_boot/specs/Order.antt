@@ -1,21 +1,22 @@
--- The orders in which cores can come up, go and come back.
+-- The orders in which cores can come up, go and come back. Which orders a text may have is this project's own. A core that is
+-- held back makes its steps like any other: what comes of them is no part of the order.
 use Rattle.std.specs.Prelude.{ℕ, ◌==◌, Bool, true, false, not, ◌&&◌, nat_lt, List, [], ◌∷◌, Option, Some, None}
 use Rattle.std.specs.List.{list_any, range_with_len}
 use Rattle.armcaps_boot.specs.declared.event.Event.{Event}
 use Rattle.armcaps_boot.specs.declared.event.Event.TheVariants.{Check, Local, Store, Offline, Finalise}
 use Rattle.armcaps_boot.specs.Steps.{is_final, last_step}
 
--- a core with this last step has been checked and no more
+-- a core with this last step has made its check and no more
 abbrev pub is_checked_last : Option Event → Bool
 is_checked_last (Some (Check core)) = true
 is_checked_last _ = false
 
--- has been verified and not yet admitted
+-- has made its local step and not its store
 abbrev pub is_updated_last : Option Event → Bool
 is_updated_last (Some (Local core)) = true
 is_updated_last _ = false
 
--- has come up
+-- has made its store and not gone
 abbrev pub is_up_last : Option Event → Bool
 is_up_last (Some (Store core)) = true
 is_up_last _ = false

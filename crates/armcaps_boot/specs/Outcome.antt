@@ -1,4 +1,4 @@
--- What can be relied on once the steps of a board are made.
+-- What can be relied on once the steps of a board are made (Linux, arch/arm64/kernel/cpufeature.c, `verify_local_cpu_caps`).
 use Rattle.std.specs.Prelude.{◌≡◌, ◌<◌, ◌≤◌, ◌⊎◌, ℕ, Bool, true, false, List, length, Some, None, is_some}
 use Rattle.armcaps_enc.specs.declared.register.SysReg.TheVariants.{CtrEl0}
 use Rattle.armcaps_tables.specs.Overriding.{AllFit, override_of}
@@ -9,7 +9,6 @@ use Rattle.armcaps_boot.specs.declared.event.Event.{Event}
 use Rattle.armcaps_boot.specs.Admission.{Board, came_early, early_cause_of, early_of, has_come, is_among_admitted, late_cause_of}
 use Rattle.armcaps_boot.specs.After.{state_of}
 use Rattle.armcaps_boot.specs.Causes.{capability_enabled, has_capability}
-use Rattle.armcaps_boot.specs.Numbers.{capability_count}
 use Rattle.armcaps_boot.specs.Steps.{last_step}
 use Rattle.armcaps_boot.specs.World.{core_at}
 
@@ -36,8 +35,8 @@ IsParkedEarly board past core cause = (early_cause_of board core ≡ Some cause)
 pub record IsParkedLate (board : Board) (past : List Event) (core : ℕ) (cause : Cause) : Type 0 where
   pub came : has_come core past ≡ true
   pub late : came_early core past ≡ false
-  pub not_early : early_cause_of board core ≡ None
-  pub cause_is : late_cause_of board past core ≡ Some cause
+  pub no_early_cause : early_cause_of board core ≡ None
+  pub late_cause : late_cause_of board past core ≡ Some cause
   pub parked : state_of board past core ≡ Parked cause
 
 -- a core that has made a step is admitted, or is parked by its early cause or else its late cause
@@ -49,8 +48,8 @@ IsAdmittedOrParked board past core =
 -- what can be relied on: each system feature that is enabled is had by each admitted core, each workaround that an admitted
 -- core needs is enabled, and no core is held back but by its first cause
 pub record IsSafe (board : Board) (past : List Event) : Type 0 where
-  pub supported : (number core : ℕ) → number < capability_count → is_system_scope number ≡ true → is_enabled_of board past number ≡ true
+  pub supported : (number core : ℕ) → is_system_scope number ≡ true → is_enabled_of board past number ≡ true
       → is_among_admitted board past core ≡ true → has_capability_of board core number ≡ true
-  pub needed : (number core : ℕ) → number < capability_count → is_erratum_class number ≡ true → is_among_admitted board past core ≡ true
+  pub needed : (number core : ℕ) → is_erratum_class number ≡ true → is_among_admitted board past core ≡ true
       → has_capability_of board core number ≡ true → is_enabled_of board past number ≡ true
   pub held : (core : ℕ) → core < length board.cores → is_some (last_step core past) ≡ true → IsAdmittedOrParked board past core

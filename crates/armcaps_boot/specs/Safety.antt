@@ -1,8 +1,8 @@
 -- What is relied on after finalisation.
 use Rattle.std.specs.Prelude.{◌≡◌, ℕ, Bool, true, ◌&&◌, nat_lt}
 use Rattle.armcaps_caps.specs.Capabilities.{is_boot_scope}
+use Rattle.armcaps_caps.specs.Rows.{capability_count}
 use Rattle.armcaps_boot.specs.Causes.{has_capability, capability_enabled}
-use Rattle.armcaps_boot.specs.Numbers.{capability_count}
 use Rattle.armcaps_boot.specs.States.{is_admitted}
 use Rattle.armcaps_boot.specs.World.{World, boot_of, core_at, state_at, early_cores}
 

@@ -9,10 +9,10 @@ use Rattle.armcaps_caps.specs.Set.{holds}
 use Rattle.armcaps_hwcap.specs.declared.hw_set.HwSet.{HwSet}
 use Rattle.armcaps_hwcap.specs.Hwcaps.{core_has_hwcap}
 use Rattle.armcaps_hwcap.specs.Words.{set_has_row}
+use Rattle.armcaps_hwcap.specs.Rows.{hwcap_count}
 use Rattle.armcaps_boot.specs.declared.cause.Cause.{Cause}
 use Rattle.armcaps_boot.specs.declared.cause.Cause.TheVariants.{Asid, Cap, Hwcap, Vector}
 use Rattle.armcaps_boot.specs.Causes.{cause_of_check, cause_of_lack, first_conflict, first_lacking, has_length}
-use Rattle.armcaps_boot.specs.Numbers.{hwcap_count}
 
 -- whether a capability is of boot scope, or is not
 abbrev pub in_scope : Bool → ℕ → Bool

@@ -2,7 +2,7 @@
 
 ghost use Rattle.std.specs.Prelude.{◌≡◌, ◌<◌, ◌==◌, ◌&&◌, ◌||◌, ◌∷◌, ◌++◌, [], ℕ, true, List, length, Ok, None};
 ghost use Rattle.armcaps_boot.specs.declared.event.Event.{Event as Step};
-ghost use Rattle.armcaps_boot.specs.Admission.{Board, admitted_of, early_of, halt_of, has_come, is_among_admitted, is_among_early};
+ghost use Rattle.armcaps_boot.specs.Admission.{Board, admitted_of, early_of, halt_of, has_come, is_among_admitted, is_among_early, is_among_late};
 ghost use Rattle.armcaps_boot.specs.After.{IsAfter, reply_of, state_of};
 ghost use Rattle.armcaps_boot.specs.Answers.{answer_of};
 ghost use Rattle.armcaps_boot.specs.Changes.{world_after};
@@ -11,7 +11,7 @@ ghost use Rattle.armcaps_boot.specs.Findings.{admitted, early, findings_after};
 ghost use Rattle.armcaps_boot.specs.First.{first_world};
 ghost use Rattle.armcaps_boot.specs.Order.{in_order, is_complete, is_next};
 ghost use Rattle.armcaps_boot.specs.Outcome.{IsBoard, IsSafe};
-ghost use Rattle.armcaps_boot.specs.States.{is_admitted, is_early};
+ghost use Rattle.armcaps_boot.specs.States.{is_admitted, is_early, is_late};
 ghost use Rattle.armcaps_boot.specs.World.{World};
 
 /// A machine that was just made is that of its board before any step.
@@ -30,11 +30,13 @@ pub fn steps_are_answered()
         → halt_of board past ≡ None → IsAfter board (event ∷ past) (world_after world event (Ok (reply_of board past event))) }
 {}
 
-/// The early and the admitted cores of steps in order are those whose states say so. A core is admitted after the first of
+/// The early, late and admitted cores of steps in order are those whose states say so. A core is admitted after the first of
 /// these steps exactly where it is the boot core, or it is admitted by all of them and its first store stands among the first.
 pub fn sets_are_those_of_the_steps()
     ensures is_early { (board : Board) (past : List Step) (core : ℕ) → in_order (length board.cores) board.boot past ≡ true
         → core < length board.cores → is_early (state_of board past core) ≡ is_among_early board past core }
+    ensures is_late { (board : Board) (past : List Step) (core : ℕ) → in_order (length board.cores) board.boot past ≡ true
+        → core < length board.cores → is_late (state_of board past core) ≡ is_among_late board past core }
     ensures is_admitted { (board : Board) (past : List Step) (core : ℕ) → in_order (length board.cores) board.boot past ≡ true
         → core < length board.cores → is_admitted (state_of board past core) ≡ is_among_admitted board past core }
     ensures early { (board : Board) (past : List Step) → in_order (length board.cores) board.boot past ≡ true
