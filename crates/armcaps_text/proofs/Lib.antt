@@ -9,6 +9,7 @@ pub mod KnownNames
 pub mod Walk
 pub mod LastLine
 pub mod History
+pub mod OnlineSteps
 pub mod Soundness
 pub mod Images
 pub mod Readings
