@@ -7,7 +7,7 @@ use Rattle.std.proofs.lemmas.List.FromFn.{get_or-map-range_with_len, length-map-
 use Rattle.armcaps_insn.specs.declared.correction.FixRefused.{FixRefused}
 use Rattle.armcaps_patch.specs.declared.kept.Kept.{Kept}
 use Rattle.armcaps_patch.specs.Kept.{moved_word}
-use Rattle.armcaps_patch.specs.Accepted.{moved_words}
+use Rattle.armcaps_patch.specs.Replaced.{moved_words}
 
 -- one word more
 pub any_more : (test : Result ℕ FixRefused → Bool) (image : List ℕ) (kept : Kept) (n : ℕ) → list_any test (moved_words image kept (n + 1)) ≡ (list_any test (moved_words image kept n) || test (moved_word image kept n))

@@ -1,4 +1,5 @@
--- What a plan keeps of the selected entries, and what it makes of them.
+-- What a plan keeps of the selected entries, and what it makes of them. Of this file `StandsFor` has to be believed, with
+-- `Planned` and `kept_of`: what a plan makes of an image is proved to be the patched image of armcaps_alt.
 use Rattle.std.specs.Prelude.{◌≡◌, ◌+◌, ◌-◌, ◌*◌, ◌/◌, ◌%◌, ◌^◌, ◌≤◌, ◌<◌, ◌&&◌, ℕ, Bool, List, [], ◌∷◌, Option, Some, None, Result, if◌then◌else◌, length, map, nat_le, nat_lt, slice_index, unwrap_or}
 use Rattle.std.specs.List.{All, range_with_len}
 use Rattle.std.specs.List.Sorted.{IsNonDecreasingBy, IsPermutation}

@@ -1,5 +1,5 @@
 -- What the contracts of this crate cite.
-pub mod Accepted
+pub mod Replaced
 pub mod Features
 pub mod Index
 pub mod Kept

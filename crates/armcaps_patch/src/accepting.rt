@@ -3,7 +3,7 @@
 ghost use Rattle.std.specs.Prelude.{◌≡◌, ◌+◌, ◌≤◌, ◌^◌, nat_le, true, false, None, Some, IfErr, IfOk, if◌then◌else◌, length};
 ghost use Rattle.armcaps_alt.specs.Refusals.{first_kind, has_other_length, is_unaligned, is_within, makes_other_length, tests_of};
 ghost use Rattle.armcaps_alt.specs.Words.{place_of};
-ghost use Rattle.armcaps_patch.specs.Accepted.{word_tests};
+ghost use Rattle.armcaps_patch.specs.Replaced.{word_tests};
 ghost use Rattle.armcaps_patch.specs.Kept.{IsKept, kept_of};
 
 use crate::kept::Kept;

@@ -12,6 +12,8 @@ mod refused;
 mod selecting;
 mod site;
 mod slots;
+#[cfg(test)]
+mod tests;
 mod words;
 
 pub use planning::Plan;

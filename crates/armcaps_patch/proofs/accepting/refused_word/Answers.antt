@@ -3,7 +3,7 @@ use Rattle.std.proofs.Common.{◌≡◌, ◌/◌, arith, refl, sym, true, ◌∙
 use Rattle.std.proofs.Math.Bool.{or-false, or-true}
 use Rattle.std.specs.List.{list_any}
 use Rattle.armcaps_alt.specs.Refusals.{is_literal, is_out_of_range}
-use Rattle.armcaps_patch.specs.Accepted.{moved_words}
+use Rattle.armcaps_patch.specs.Replaced.{moved_words}
 use Rattle.armcaps_patch.specs.Kept.{moved_word}
 use Rattle.armcaps_patch.proofs.Moving.{any_here, any_more}
 use Rattle.armcaps_patch.proofs.accepting.refused_word.Goals.{in-Ok, in-Err-Range}

@@ -1,0 +1,492 @@
+ghost use Rattle.std.specs.Prelude.{◌≡◌, ◌<◌, ◌≤◌, ℕ, IfOk, None, length, true};
+ghost use Rattle.armcaps_enc.specs.declared.register.SysReg.TheVariants.{CtrEl0};
+ghost use Rattle.armcaps_tables.specs.Overriding.{override_of};
+
+use super::*;
+use armcaps_alt::{
+    CallbackKind, Conduit, Entry, Layout, Named, Names, PatchKind, callback_word, selected,
+};
+use armcaps_boot::{Boot, Event, Reply};
+use armcaps_caps::CapSet;
+use armcaps_enc::SysReg;
+use armcaps_insn::correct;
+use armcaps_io::{Failed, MemSink, Sink};
+use armcaps_tables::{CoreRegs, Overrides};
+use byteorder::{ByteOrder, LittleEndian};
+use std::alloc::{AllocError, Global};
+use std::process::Abort;
+use std::test::Fail;
+
+// No overrides: so none of a field of CTR_EL0.
+fn without_overrides() -> Overrides
+    ensures { (index : ℕ) → override_of result CtrEl0 index ≡ None }
+{
+    Overrides::none()
+}
+
+// A machine of one core whose CTR_EL0 is this, after finalisation.
+fn machine(rt: &impl Abort, alloc: Global, ctr: u64) -> Result<Boot, Fail>
+    ensures { IfOk result (λ boot. boot.final ≡ true) }
+{
+    let mut core = CoreRegs::zero();
+    core.set(SysReg::CtrEl0, ctr);
+    let Ok(mut boot) = Boot::new(alloc, vec![in alloc; core]?, 0, without_overrides()) else {
+        return Err(Fail::from("no memory"));
+    };
+    assert_eq!(rt; boot.step(Event::Finalise), Ok(Reply::Done));
+    assert!(rt; boot.is_final());
+    Ok(boot)
+}
+
+// The number 1 is ALWAYS_SYSTEM, 2 is given as off, and a callback may stand at 0x2000.
+fn names(
+    alloc: Global,
+    callback: Option<CallbackKind>,
+    conduit: Conduit,
+) -> Result<Names, AllocError> {
+    let numbers = vec![in alloc; (1, Named::Cap(1)), (2, Named::Given(false))]?;
+    let callbacks = match callback {
+        Some(kind) => vec![in alloc; (0x2000, kind)]?,
+        None => Vec::new(alloc),
+    };
+    Ok(Names::new(numbers, callbacks, conduit))
+}
+
+// The word at a place of an image.
+fn word_at(rt: &impl Abort, image: &[u8], place: usize) -> u32 {
+    assert!(rt; image.len() >= 4 && place <= image.len() - 4);
+    LittleEndian::read_u32(&image[place..])
+}
+
+// Puts a word at a place of an image.
+fn put(rt: &impl Abort, image: &mut [u8], place: usize, word: u32) {
+    assert!(rt; image.len() >= 4 && place <= image.len() - 4);
+    LittleEndian::write_u32(&mut image[place..], word);
+}
+
+// An image of so many bytes, with a table at its begin and these words.
+fn image(
+    rt: &impl Abort,
+    alloc: Global,
+    size: usize,
+    table: &[[u8; 12]],
+    words: &[(usize, u32)],
+) -> Result<Vec<u8>, AllocError> {
+    let mut image = Vec::from_elem(alloc, 0u8, size)?;
+    for (index, entry) in table.iter().enumerate() {
+        for k in 0..3 {
+            put(
+                rt,
+                &mut image,
+                12 * index + 4 * k,
+                word_at(rt, entry, 4 * k),
+            );
+        }
+    }
+    for (place, word) in words {
+        put(rt, &mut image, *place, *word);
+    }
+    Ok(image)
+}
+
+// What checking and writing give: the image that the sink got.
+fn patched(
+    rt: &impl Abort,
+    alloc: Global,
+    image: &[u8],
+    count: u32,
+    names: &Names,
+    boot: &Boot,
+) -> Result<Result<Vec<u8>, PatchRefused>, Fail> {
+    let layout = Layout { table: 0, count };
+    assert!(rt;
+        image.len() <= 1 << 29 && 12 * u64::from(count) <= image.len() as u64 && boot.is_final()
+    );
+    match Plan::check(alloc, image, layout, names, boot) {
+        Ok(plan) => {
+            let mut sink = MemSink::new(alloc, image.len(), 4096, Vec::new(alloc))?;
+            assert_eq!(rt; plan.write(image, &mut sink), Ok(()));
+            Ok(Ok(Vec::from_slice(alloc, sink.bytes())?))
+        }
+        Err(refused) => Ok(Err(refused)),
+    }
+}
+
+// The same as the definition says it: the whole image is kept, and the entries are laid over it in the table's order.
+fn laid_over(
+    rt: &impl Abort,
+    alloc: Global,
+    image: &[u8],
+    count: u32,
+    names: &Names,
+    boot: &Boot,
+) -> Result<Vec<u8>, AllocError> {
+    let mut enabled = CapSet::empty();
+    for number in 0..53 {
+        if boot.enabled(number) {
+            enabled.insert(number);
+        }
+    }
+    let mut whole = Vec::from_slice(alloc, image)?;
+    for index in 0..u64::from(count) {
+        let place = 12 * index as usize;
+        assert!(rt; image.len() >= 12 && place <= image.len() - 12);
+        let entry = Entry::read(&image[place..], 12 * index);
+        if selected(&entry, names, &enabled) == Some(true) {
+            lay(rt, &mut whole, &entry, image, names, boot.final_ctr());
+        }
+    }
+    Ok(whole)
+}
+
+// Lays the new words of an entry over an image.
+fn lay(rt: &impl Abort, whole: &mut [u8], entry: &Entry, image: &[u8], names: &Names, ctr: u64) {
+    let site = u64::try_from(entry.site).unwrap_or(0);
+    let low = u64::try_from(entry.repl).unwrap_or(0);
+    assert!(rt; site < 1 << 30 && low < 1 << 30 && site % 4 == 0);
+    for index in 0..u64::from(entry.orig_len / 4) {
+        let to = site + 4 * index;
+        let orig = word_at(rt, image, to as usize);
+        let word = match names.callback(entry.repl) {
+            Some(kind) if entry.callback => {
+                assert!(rt; index < 4);
+                callback_word(
+                    kind,
+                    index as u32,
+                    ctr,
+                    names.conduit(),
+                    word_at(rt, image, site as usize),
+                    orig,
+                )
+            }
+            _ => {
+                assert!(rt; low % 4 == 0 && entry.orig_len % 4 == 0);
+                let from = low + 4 * index;
+                let moved = correct(
+                    word_at(rt, image, from as usize),
+                    from,
+                    to,
+                    low,
+                    low + u64::from(entry.orig_len),
+                );
+                moved.unwrap_or(orig)
+            }
+        };
+        put(rt, whole, to as usize, word);
+    }
+}
+
+const NOP: u32 = 0xd503_201f;
+
+type Words = &'static [(usize, u32)];
+
+const CALL: &'static [[u8; 12]] = &[[0x00, 0x01, 0, 0, 0xfc, 0x1f, 0, 0, 1, 0x80, 4, 0]];
+
+// The callback at 0x2000 and the conduit, the table, the words of the image, and what becomes of them.
+#[test]
+fn images_are_patched(rt: HostRuntime) -> Result<(), Fail> {
+    let none = Conduit::None;
+    let rows: [(
+        Option<CallbackKind>,
+        Conduit,
+        &'static [[u8; 12]],
+        Words,
+        Words,
+    ); 11] = [
+        (
+            None,
+            none,
+            &[[0x00, 0x01, 0, 0, 0xfc, 0x1f, 0, 0, 1, 0, 8, 8]],
+            &[(0x2000, 0x9400_0400), (0x2004, 0x1400_0001)],
+            &[(0x100, 0x9400_0bc0), (0x104, 0x1400_0001)],
+        ),
+        (
+            None,
+            none,
+            &[[0x00, 0x01, 0, 0, 0x0c, 0x20, 0, 0, 1, 0, 4, 4]],
+            &[(0x2010, 0xf000_0000)],
+            &[(0x100, 0xb000_0020)],
+        ),
+        (
+            Some(CallbackKind::FinalCtr),
+            none,
+            &[[0x00, 0x01, 0, 0, 0xfc, 0x1f, 0, 0, 1, 0x80, 16, 0]],
+            &[(0x100, 0xd53b_0023)],
+            &[
+                (0x100, 0xd290_0083),
+                (0x104, 0xf2b0_8883),
+                (0x108, 0xf2c0_0003),
+                (0x10c, 0xf2e0_0003),
+            ],
+        ),
+        (
+            None,
+            none,
+            &[
+                [0x00, 0x01, 0, 0, 0xfc, 0x1f, 0, 0, 1, 0, 8, 8],
+                [0xf8, 0x00, 0, 0, 0xf8, 0x1f, 0, 0, 1, 0, 4, 4],
+            ],
+            &[(0x2000, NOP), (0x2004, NOP), (0x2008, 0xd400_0003)],
+            &[(0x100, NOP), (0x104, 0xd400_0003)],
+        ),
+        (
+            None,
+            none,
+            &[
+                [0x00, 0x01, 0, 0, 0xfc, 0x1f, 0, 0, 1, 0, 8, 8],
+                [0xf8, 0x00, 0, 0, 0xf4, 0x1f, 0, 0, 2, 0, 4, 0],
+            ],
+            &[(0x2000, NOP), (0x2004, NOP)],
+            &[(0x100, NOP), (0x104, NOP)],
+        ),
+        (
+            Some(CallbackKind::Nops),
+            none,
+            CALL,
+            &[(0x100, 0x1234_5678)],
+            &[(0x100, NOP)],
+        ),
+        (
+            Some(CallbackKind::Conduit),
+            Conduit::Hvc,
+            CALL,
+            &[(0x100, 0x1234_5678)],
+            &[(0x100, 0xd400_0002)],
+        ),
+        (
+            Some(CallbackKind::Conduit),
+            Conduit::Smc,
+            CALL,
+            &[(0x100, 0x1234_5678)],
+            &[(0x100, 0xd400_0003)],
+        ),
+        (
+            Some(CallbackKind::Keep),
+            Conduit::Smc,
+            CALL,
+            &[(0x100, 0x1234_5678)],
+            &[],
+        ),
+        (
+            None,
+            none,
+            &[[0xfc, 0x0f, 0, 0, 0xfc, 0x17, 0, 0, 1, 0, 8, 8]],
+            &[(0x1800, NOP), (0x1804, 0x9400_003f)],
+            &[(0xffc, NOP), (0x1000, 0x9400_0240)],
+        ),
+        (
+            None,
+            none,
+            &[[0x00, 0x01, 0, 0, 0xfc, 0x1f, 0, 0, 1, 0, 0, 0]],
+            &[],
+            &[],
+        ),
+    ];
+    let boot = machine(&rt, rt.alloc(), 0x8444_8004)?;
+    for (callback, conduit, table, words, becomes) in rows {
+        let names = names(rt.alloc(), callback, conduit)?;
+        let original = image(&rt, rt.alloc(), 12288, table, words)?;
+        let mut expected = Vec::from_slice(rt.alloc(), &original)?;
+        for (place, word) in becomes {
+            put(&rt, &mut expected, *place, *word);
+        }
+        let count = u32::try_from(table.len()).unwrap_or(0);
+        assert_eq!(&rt;
+            laid_over(&rt, rt.alloc(), &original, count, &names, &boot)?,
+            expected
+        );
+        assert_eq!(&rt;
+            patched(&rt, rt.alloc(), &original, count, &names, &boot)?,
+            Ok(expected)
+        );
+    }
+    Ok(())
+}
+
+// The callback at 0x2000, the table, the words of the image, and which entry is refused for which kind.
+#[test]
+fn entries_are_refused(rt: HostRuntime) -> Result<(), Fail> {
+    let rows: [(
+        Option<CallbackKind>,
+        &'static [[u8; 12]],
+        Words,
+        u32,
+        PatchKind,
+    ); 13] = [
+        (
+            None,
+            &[[0x00, 0x01, 0, 0, 0x0c, 0x20, 0, 0, 1, 0, 4, 4]],
+            &[(0x2010, 0x5800_0040)],
+            0,
+            PatchKind::Literal,
+        ),
+        (
+            None,
+            &[[0x00, 0x01, 0, 0, 0x0c, 0x20, 0, 0, 1, 0, 4, 4]],
+            &[(0x2010, 0x3603_ff80)],
+            0,
+            PatchKind::Range,
+        ),
+        (
+            Some(CallbackKind::FinalCtr),
+            &[[0x00, 0x01, 0, 0, 0xfc, 0x1f, 0, 0, 1, 0x80, 12, 0]],
+            &[],
+            0,
+            PatchKind::CallbackLength,
+        ),
+        (
+            None,
+            &[[0x00, 0x01, 0, 0, 0xfc, 0x1f, 0, 0, 1, 0x80, 8, 0]],
+            &[],
+            0,
+            PatchKind::UnknownCallback,
+        ),
+        (
+            None,
+            &[
+                [0x00, 0x01, 0, 0, 0xfc, 0x1f, 0, 0, 1, 0, 8, 8],
+                [0xf8, 0x00, 0, 0, 0xf4, 0x1f, 0, 0, 3, 0, 4, 0],
+            ],
+            &[],
+            1,
+            PatchKind::UnknownCap,
+        ),
+        (
+            None,
+            &[[0xff, 0xff, 0xff, 0xff, 0xfc, 0x1f, 0, 0, 1, 0, 8, 8]],
+            &[],
+            0,
+            PatchKind::Unaligned,
+        ),
+        (
+            None,
+            &[[0x00, 0x00, 0x00, 0x80, 0xfc, 0x1f, 0, 0, 1, 0, 8, 8]],
+            &[],
+            0,
+            PatchKind::SiteOutside,
+        ),
+        (
+            None,
+            &[[0x10, 0x2f, 0, 0, 0xfc, 0x1f, 0, 0, 1, 0, 0xfc, 0xfc]],
+            &[],
+            0,
+            PatchKind::SiteOutside,
+        ),
+        (
+            None,
+            &[[0x00, 0x01, 0, 0, 0xfc, 0x1f, 0, 0, 1, 0, 0xff, 0xff]],
+            &[],
+            0,
+            PatchKind::Unaligned,
+        ),
+        (
+            None,
+            &[[0x00, 0x01, 0, 0, 0xfc, 0x1f, 0, 0, 1, 0, 8, 0xff]],
+            &[],
+            0,
+            PatchKind::Length,
+        ),
+        (
+            None,
+            &[[0x00, 0x01, 0, 0, 0xf8, 0x2f, 0, 0, 1, 0, 8, 8]],
+            &[],
+            0,
+            PatchKind::ReplacementOutside,
+        ),
+        (
+            None,
+            &[[0x00, 0x01, 0, 0, 0xfc, 0xff, 0xff, 0x7f, 1, 0, 8, 8]],
+            &[],
+            0,
+            PatchKind::ReplacementOutside,
+        ),
+        (
+            None,
+            &[[0x00, 0x01, 0, 0, 0xfc, 0x1f, 0, 0, 0xff, 0x7f, 8, 8]],
+            &[],
+            0,
+            PatchKind::UnknownCap,
+        ),
+    ];
+    let boot = machine(&rt, rt.alloc(), 0x8444_8004)?;
+    for (callback, table, words, entry, kind) in rows {
+        let names = names(rt.alloc(), callback, Conduit::None)?;
+        let original = image(&rt, rt.alloc(), 12288, table, words)?;
+        let answer = patched(
+            &rt,
+            rt.alloc(),
+            &original,
+            u32::try_from(table.len()).unwrap_or(0),
+            &names,
+            &boot,
+        )?;
+        assert_eq!(&rt; answer, Err(PatchRefused::Entry { entry, kind }));
+    }
+    Ok(())
+}
+
+// A sink that fails at a piece above 4096 bytes, and counts the bytes of the others.
+#[derive(Drop)]
+struct Pieces {
+    taken: u64,
+    faults: u64,
+}
+
+impl Sink for Pieces {
+    ghost held = { λ s. None };
+
+    ghost faults = { λ s. s.faults };
+
+    fn write(&mut self, piece: &[u8]) -> Result<usize, Failed> {
+        if piece.len() > 4096 {
+            self.faults = self.faults.saturating_add(1);
+            return Err(Failed);
+        }
+        self.taken = self.taken.saturating_add(piece.len() as u64);
+        Ok(piece.len())
+    }
+}
+
+// Two thousand sites of 63 words, each a word after the one before, with the same replacement.
+#[test]
+fn sites_overlap(rt: HostRuntime) -> Result<(), Fail> {
+    let boot = machine(&rt, rt.alloc(), 0)?;
+    let names = names(rt.alloc(), None, Conduit::None)?;
+    let mut original = image(&rt, rt.alloc(), 131_072, &[], &[])?;
+    for index in 0..2000u32 {
+        let place = 12 * index as usize;
+        put(&rt, &mut original, place, 0x8000 - 8 * index);
+        put(&rt, &mut original, place + 4, 0x1_0000 - 12 * index - 4);
+        put(&rt, &mut original, place + 8, 0xfcfc_0001);
+    }
+    for index in 0..63 {
+        put(&rt, &mut original, 0x1_0000 + 4 * index, 0x1111_1111);
+    }
+    let mut expected = Vec::from_slice(rt.alloc(), &original)?;
+    for index in 0..2062 {
+        put(&rt, &mut expected, 0x8000 + 4 * index, 0x1111_1111);
+    }
+    assert_eq!(&rt;
+        laid_over(&rt, rt.alloc(), &original, 2000, &names, &boot)?,
+        expected
+    );
+    assert_eq!(&rt;
+        patched(&rt, rt.alloc(), &original, 2000, &names, &boot)?,
+        Ok(expected)
+    );
+    let mut pieces = Pieces {
+        taken: 0,
+        faults: 0,
+    };
+    let layout = Layout {
+        table: 0,
+        count: 2000,
+    };
+    assert!(&rt; original.len() == 131_072 && boot.is_final());
+    let Ok(plan) = Plan::check(rt.alloc(), &original, layout, &names, &boot) else {
+        return Err(Fail::from("no plan"));
+    };
+    assert_eq!(&rt; plan.write(&original, &mut pieces), Ok(()));
+    assert_eq!(&rt; pieces.taken, 131_072);
+    Ok(())
+}
