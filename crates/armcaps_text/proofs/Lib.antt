@@ -10,6 +10,7 @@ pub mod Walk
 pub mod LastLine
 pub mod History
 pub mod OnlineSteps
+pub mod MovedWords
 pub mod Soundness
 pub mod Images
 pub mod Readings
