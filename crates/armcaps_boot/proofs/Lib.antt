@@ -17,5 +17,9 @@ pub mod Histories
 pub mod Holding
 pub mod ShorterHistories
 pub mod Answering
-pub mod CoreAnswers
+pub mod OwnSteps
+pub mod CheckStep
+pub mod LocalStep
+pub mod StoreStep
+pub mod AnySteps
 pub mod WholeRuns

@@ -28,7 +28,7 @@ use Rattle.armcaps_boot.specs.World.{World, boot_of, core_at, early_cores, state
 use Rattle.armcaps_boot.proofs.Answering.{IsHeldIn, IsTurnIn, early_cores_are, held_in, past_in, states_set}
 use Rattle.armcaps_boot.proofs.Beginning.{first_facts}
 use Rattle.armcaps_boot.proofs.Below.{erratum_is_counted, system_is_counted}
-use Rattle.armcaps_boot.proofs.CoreAnswers.{step_after, step_answered}
+use Rattle.armcaps_boot.proofs.AnySteps.{step_after, step_answered}
 use Rattle.armcaps_boot.proofs.Histories.{and_left, and_right, course, early_came, is_gone_last, none_in_flight, not_true, on_either, turn_of}
 use Rattle.armcaps_boot.proofs.Holding.{admitted_by_state, held_from, held_is, not_finalise, other_number, past_by, state_of-boot, state_of-other}
 use Rattle.armcaps_boot.proofs.SafeSystem.{enabled_is_supported, needed_is_enabled}

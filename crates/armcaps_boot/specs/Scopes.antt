@@ -1,17 +1,15 @@
 -- What the code asks: the same as the definitions, of what it keeps, with the cache type compared with that of the present
 -- system word.
-use Rattle.std.specs.Prelude.{ℕ, Bool, ◌&&◌, List, Option, Some, true, false, not, nat_lt, if◌then◌else◌}
-use Rattle.std.specs.Option.{option_map, option_or}
+use Rattle.std.specs.Prelude.{ℕ, Bool, List, Option, true, false, not, if◌then◌else◌}
 use Rattle.armcaps_tables.specs.Core.{Core}
 use Rattle.armcaps_tables.specs.Overriding.{FieldOverrides}
-use Rattle.armcaps_caps.specs.Capabilities.{conflicts, core_has_capability, is_boot_scope, is_local_scope, system_has_capability}
+use Rattle.armcaps_caps.specs.Capabilities.{core_has_capability, is_boot_scope, is_local_scope, system_has_capability}
 use Rattle.armcaps_caps.specs.Set.{holds}
 use Rattle.armcaps_hwcap.specs.declared.hw_set.HwSet.{HwSet}
 use Rattle.armcaps_hwcap.specs.Hwcaps.{core_has_hwcap}
 use Rattle.armcaps_hwcap.specs.Words.{set_has_row}
 use Rattle.armcaps_hwcap.specs.Rows.{hwcap_count}
 use Rattle.armcaps_boot.specs.declared.cause.Cause.{Cause}
-use Rattle.armcaps_boot.specs.declared.cause.Cause.TheVariants.{Asid, Cap, Hwcap, Vector}
 use Rattle.armcaps_boot.specs.Causes.{cause_of_check, cause_of_lack, first_conflict, first_lacking, has_length}
 
 -- whether a capability is of boot scope, or is not

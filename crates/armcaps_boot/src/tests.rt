@@ -16,12 +16,34 @@ fn without_overrides() -> Overrides
     Overrides::none()
 }
 
+// A value of SSBS that stands in for the cores' own: no field of CTR_EL0 has one.
+fn with_ssbs() -> Overrides
+    ensures { (index : ℕ) → override_of result CtrEl0 index ≡ None }
+{
+    let mut overrides = without_overrides();
+    overrides.set(SysReg::IdAa64Pfr1El1, 1, 1);
+    overrides
+}
+
 // A machine of these cores without overrides, whose boot core is core 0.
 fn machine(rt: &impl Abort, alloc: Global, cores: &[CoreRegs]) -> Result<Boot, Fail>
     requires { length cores.now ≤ 512 }
 {
+    machine_with(rt, alloc, cores, without_overrides())
+}
+
+// A machine of these cores under the overrides, whose boot core is core 0.
+fn machine_with(
+    rt: &impl Abort,
+    alloc: Global,
+    cores: &[CoreRegs],
+    overrides: Overrides,
+) -> Result<Boot, Fail>
+    requires few { length cores.now ≤ 512 }
+    requires plain_ctr { (index : ℕ) → override_of overrides CtrEl0 index ≡ None }
+{
     let cores = Vec::from_slice(alloc, cores)?;
-    match Boot::new(alloc, cores, 0, without_overrides()) {
+    match Boot::new(alloc, cores, 0, overrides) {
         Ok(boot) => Ok(boot),
         Err(refused) => {
             assert_eq!(rt; refused, BootRefused::Memory);
@@ -185,6 +207,75 @@ fn vector_lengths_and_return(rt: HostRuntime) -> Result<(), Fail> {
     assert!(rt; boot.enabled(36) && !boot.enabled(37) && !boot.enabled(53));
     assert_eq!(rt; boot.state(1), Some(CoreState::Admitted { late: false }));
     assert_eq!(rt; boot.state(3), Some(CoreState::Offline { late: true }));
+    Ok(())
+}
+
+// Cores with SVE of which no vector lengths are told: programs are told of none, and no core lacks one.
+#[test]
+fn no_vector_lengths(rt: HostRuntime) -> Result<(), Fail> {
+    let cores = [core(SysReg::IdAa64Pfr0El1, 0x1_0000_0000); 3];
+    let mut boot = machine(&rt, rt.alloc(), &cores)?;
+    let steps = [
+        (Event::Check(1), DONE),
+        (Event::Local(1), DONE),
+        (Event::Store(1), DONE),
+        (Event::Finalise, DONE),
+        (Event::Check(2), DONE),
+        (Event::Local(2), DONE),
+        (Event::Store(2), DONE),
+    ];
+    make(&rt, &mut boot, &steps);
+    assert_eq!(rt; boot.vector_lengths(), 0);
+    assert!(rt; boot.enabled(36));
+    assert_eq!(rt; boot.state(2), Some(CoreState::Admitted { late: true }));
+    Ok(())
+}
+
+// A value of 1 stands in for SSBS of a boot core that has 2, and a late core has none.
+#[test]
+fn a_core_under_an_override(rt: HostRuntime) -> Result<(), Fail> {
+    let cores = [core(SysReg::IdAa64Pfr1El1, 0x20), CoreRegs::zero()];
+    let mut boot = machine_with(&rt, rt.alloc(), &cores, with_ssbs())?;
+    let ssbs = Cause::Cap(40);
+    let steps = [
+        (Event::Finalise, DONE),
+        (Event::Check(1), DONE),
+        (Event::Local(1), Ok(Reply::Parked(ssbs))),
+        (Event::Store(1), Ok(Reply::Skipped)),
+    ];
+    make(&rt, &mut boot, &steps);
+    assert_eq!(rt; boot.system().word(SysReg::IdAa64Pfr1El1), 0x10);
+    assert!(rt; boot.enabled(40));
+    assert_eq!(rt; boot.hwcaps().hwcap >> 28 & 1, 0);
+    assert_eq!(rt; boot.state(1), Some(CoreState::Parked(ssbs)));
+    Ok(())
+}
+
+// The events of lines, one of which brings a core up whole.
+#[test]
+fn events_of_lines(rt: HostRuntime) -> Result<(), Fail> {
+    let lines = [
+        StepLine::Check(2),
+        StepLine::Local(2),
+        StepLine::Online(1),
+        StepLine::Store(2),
+        StepLine::Finalise,
+        StepLine::Offline(1),
+    ];
+    let events = [
+        Event::Check(2),
+        Event::Local(2),
+        Event::Check(1),
+        Event::Local(1),
+        Event::Store(1),
+        Event::Store(2),
+        Event::Finalise,
+        Event::Offline(1),
+    ];
+    assert_eq!(rt;
+        events_of(rt.alloc(), &lines)?.as_slice(),
+        events.as_slice()
+    );
     Ok(())
 }
 

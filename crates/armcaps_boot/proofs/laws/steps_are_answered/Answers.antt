@@ -1,4 +1,4 @@
-use Rattle.armcaps_boot.proofs.CoreAnswers.{step_after, step_answered}
+use Rattle.armcaps_boot.proofs.AnySteps.{step_after, step_answered}
 use Rattle.armcaps_boot.proofs.laws.steps_are_answered.Goals as goal
 
 pub returns : goal.returns
