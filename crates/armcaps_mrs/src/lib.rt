@@ -4,6 +4,8 @@
 mod read;
 mod reading;
 mod refused;
+#[cfg(test)]
+mod tests;
 
 pub use read::UserRead;
 pub use reading::read_user;

@@ -43,27 +43,52 @@ hwcap_lines advertised =
     word_line (codes "hwcap") (hwcap_word advertised) ++ word_line (codes "hwcap2") (hwcap2_word advertised)
     ++ codes "flags" ++ flags_text advertised ++ 10 ∷ []
 
--- each group: the header; the cores; the system registers over the cores that were ever admitted; the same as users see
--- them; the registers in which some such core differs from the boot core; the overrides; the enabled capabilities; the hwcaps
--- and the vector lengths, which the early cores decide; and the end
-unfoldable pub group_text : Findings → Group → List ℕ
-group_text found Header = codes "armcaps report 1\n"
-group_text found Cores =
+-- what became of each core
+abbrev pub core_lines : Findings → List ℕ
+core_lines found =
     flat_map (λ number. core_line found.boot number (state_at found.states number)) (range_with_len 0 (length found.cores))
-group_text found Registers =
+
+-- the system registers, over the cores that were ever admitted
+abbrev pub register_lines : Findings → List ℕ
+register_lines found =
     flat_map (λ register. register_line register (system_word found.overrides (admitted found) register)) tracked
-group_text found UserWords =
-    flat_map (λ register. user_line register (user_word found.overrides (admitted found) register)) tracked
-group_text found Variations =
+
+-- the same as users see them
+abbrev pub user_lines : Findings → List ℕ
+user_lines found = flat_map (λ register. user_line register (user_word found.overrides (admitted found) register)) tracked
+
+-- the registers in which some such core differs from the boot core
+abbrev pub varies_lines : Findings → List ℕ
+varies_lines found =
     flat_map (λ register. varies_line register (varies_among (boot_core found) (admitted found) register)) tracked
-group_text found Notes = flat_map (note_lines found.overrides (boot_core found)) tracked
-group_text found Capabilities =
+
+-- what the overrides of all fields came to
+abbrev pub all_note_lines : Findings → List ℕ
+all_note_lines found = flat_map (note_lines found.overrides (boot_core found)) tracked
+
+-- the capabilities that are enabled
+unfoldable pub capability_lines : Findings → List ℕ
+capability_lines found =
     flat_map (λ number. capability_line (capability_enabled found.overrides (boot_core found) (early found) number) number)
     (range_with_len 0 53)
-group_text found Hwcaps = hwcap_lines (hwcap_advertised found.overrides (early found))
-group_text found VectorLengths =
+
+-- the vector lengths that programs are told of
+unfoldable pub length_lines : Findings → List ℕ
+length_lines found =
     flat_map (λ length. length_line (is_system_length found.overrides (boot_core found) (early found) length) length)
     (range_with_len 1 16)
+
+-- each group
+unfoldable pub group_text : Findings → Group → List ℕ
+group_text found Header = codes "armcaps report 1\n"
+group_text found Cores = core_lines found
+group_text found Registers = register_lines found
+group_text found UserWords = user_lines found
+group_text found Variations = varies_lines found
+group_text found Notes = all_note_lines found
+group_text found Capabilities = capability_lines found
+group_text found Hwcaps = hwcap_lines (hwcap_advertised found.overrides (early found))
+group_text found VectorLengths = length_lines found
 group_text found End = codes "end\n"
 
 -- the groups in their order

@@ -1,20 +1,19 @@
 //! The group of capabilities.
 
 ghost use Rattle.std.specs.Prelude.{◌≡◌, ◌<◌, ◌++◌, OnOk, string_bytes, true};
-ghost use Rattle.std.specs.List.{flat_map, range_with_len};
-ghost use Rattle.armcaps_boot.specs.Causes.{capability_enabled};
-ghost use Rattle.armcaps_boot.specs.World.{boot_of, early_cores};
+ghost use Rattle.armcaps_boot.specs.Findings.{findings_of};
 ghost use Rattle.armcaps_report.specs.Lines.{capability_line};
+ghost use Rattle.armcaps_report.specs.Report.{capability_lines};
 
 use crate::causes::push_capability;
 use armcaps_boot::Boot;
 use std::alloc::AllocError;
 
 /// Adds the lines of the capabilities that are enabled.
+#[tactic(auto, unfolding(crate::specs::Report::capability_lines))]
 pub(crate) fn push_capabilities(text: &mut String, boot: &Boot) -> Result<(), AllocError>
     requires { boot.now.final ≡ true }
-    ensures { OnOk result (string_bytes text.new ≡ string_bytes text.old
-        ++ flat_map (λ number. capability_line (capability_enabled boot.now.overrides (boot_of boot.now) (early_cores boot.now) number) number) (range_with_len 0 53)) }
+    ensures { OnOk result (string_bytes text.new ≡ string_bytes text.old ++ capability_lines (findings_of boot.now)) }
 {
     for number in 0..53 {
         push_where_enabled(text, boot.enabled(number), number)?;

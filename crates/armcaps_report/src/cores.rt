@@ -1,9 +1,10 @@
 //! The group of cores.
 
-ghost use Rattle.std.specs.Prelude.{◌≡◌, ◌++◌, ◌==◌, OnOk, codes, if◌then◌else◌, length, string_bytes};
-ghost use Rattle.std.specs.List.{flat_map, range_with_len};
+ghost use Rattle.std.specs.Prelude.{◌≡◌, ◌++◌, ◌==◌, OnOk, codes, if◌then◌else◌, string_bytes};
+ghost use Rattle.armcaps_boot.specs.Findings.{findings_of};
 ghost use Rattle.armcaps_boot.specs.World.{state_at};
 ghost use Rattle.armcaps_report.specs.Lines.{core_line, state_text, time_text};
+ghost use Rattle.armcaps_report.specs.Report.{core_lines};
 
 use crate::causes::push_cause;
 use armcaps_boot::{Boot, CoreState};
@@ -12,8 +13,7 @@ use std::fmt::Write;
 
 /// Adds the lines of the cores.
 pub(crate) fn push_cores(text: &mut String, boot: &Boot) -> Result<(), AllocError>
-    ensures { OnOk result (string_bytes text.new ≡ string_bytes text.old
-        ++ flat_map (λ number. core_line boot.now.boot number (state_at boot.now.states number)) (range_with_len 0 (length boot.now.cores))) }
+    ensures { OnOk result (string_bytes text.new ≡ string_bytes text.old ++ core_lines (findings_of boot.now)) }
 {
     for number in 0..boot.count() {
         push_core(text, boot, number)?;
@@ -24,7 +24,8 @@ pub(crate) fn push_cores(text: &mut String, boot: &Boot) -> Result<(), AllocErro
 // Adds the line of a core.
 #[tactic(auto, unfolding(crate::specs::Lines::core_line))]
 fn push_core(text: &mut String, boot: &Boot, number: u32) -> Result<(), AllocError>
-    ensures { OnOk result (string_bytes text.new ≡ string_bytes text.old ++ core_line boot.now.boot number (state_at boot.now.states number)) }
+    ensures { OnOk result (string_bytes text.new ≡ string_bytes text.old
+        ++ core_line boot.now.boot number (state_at boot.now.states number)) }
 {
     write!(text, "core {number} ")?;
     push_standing(text, boot, number)?;

@@ -1,13 +1,12 @@
 //! The group of overrides: what each came to on the boot core.
 
 ghost use Rattle.std.specs.Prelude.{◌≡◌, ◌<◌, ◌++◌, OnOk, length, string_bytes};
-ghost use Rattle.std.specs.List.{flat_map};
-ghost use Rattle.armcaps_enc.specs.Registers.{tracked};
 ghost use Rattle.armcaps_tables.specs.RowOf.{row_of};
 ghost use Rattle.armcaps_tables.specs.Rows.{rows_of};
+ghost use Rattle.armcaps_boot.specs.Findings.{findings_of};
 ghost use Rattle.armcaps_boot.specs.World.{boot_of};
 ghost use Rattle.armcaps_report.specs.Lines.{note_line};
-ghost use Rattle.armcaps_report.specs.Report.{note_line_at, note_lines};
+ghost use Rattle.armcaps_report.specs.Report.{all_note_lines, note_line_at, note_lines};
 
 use crate::varying::boot_core;
 use armcaps_boot::Boot;
@@ -19,8 +18,7 @@ use std::fmt::Write;
 
 /// Adds the lines of all fields that have an override.
 pub(crate) fn push_notes(text: &mut String, boot: &Boot) -> Result<(), AllocError>
-    ensures { OnOk result (string_bytes text.new ≡ string_bytes text.old
-        ++ flat_map (note_lines boot.now.overrides (boot_of boot.now)) tracked) }
+    ensures { OnOk result (string_bytes text.new ≡ string_bytes text.old ++ all_note_lines (findings_of boot.now)) }
 {
     for register in SysReg::TRACKED {
         push_notes_of(text, boot, register)?;
@@ -58,7 +56,8 @@ fn push_note_at(
 
 // Adds a field's line, where it has an override.
 fn push_note(text: &mut String, row: &FieldRow, note: Note) -> Result<(), AllocError>
-    ensures { OnOk result (string_bytes text.new ≡ string_bytes text.old ++ note_line row.now.reg (row_of row.now) note) }
+    ensures { OnOk result (string_bytes text.new ≡ string_bytes text.old
+        ++ note_line row.now.reg (row_of row.now) note) }
 {
     let register = row.reg.short_name();
     let name = row.name;

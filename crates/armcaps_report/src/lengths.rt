@@ -1,20 +1,21 @@
 //! The group of vector lengths.
 
 ghost use Rattle.std.specs.Prelude.{◌≡◌, ◌<◌, ◌+◌, ◌++◌, OnOk, string_bytes, true};
-ghost use Rattle.std.specs.List.{flat_map, range_with_len};
 ghost use Rattle.armcaps_boot.specs.Causes.{is_system_length};
+ghost use Rattle.armcaps_boot.specs.Findings.{findings_of};
 ghost use Rattle.armcaps_boot.specs.World.{boot_of, early_cores};
 ghost use Rattle.armcaps_report.specs.Lines.{length_line};
+ghost use Rattle.armcaps_report.specs.Report.{length_lines};
 
 use armcaps_boot::Boot;
 use std::alloc::AllocError;
 use std::fmt::Write;
 
 /// Adds the lines of the vector lengths that programs are told of.
+#[tactic(auto, unfolding(crate::specs::Report::length_lines))]
 pub(crate) fn push_lengths(text: &mut String, boot: &Boot) -> Result<(), AllocError>
     requires { boot.now.final ≡ true }
-    ensures { OnOk result (string_bytes text.new ≡ string_bytes text.old
-        ++ flat_map (λ length. length_line (is_system_length boot.now.overrides (boot_of boot.now) (early_cores boot.now) length) length) (range_with_len 1 16)) }
+    ensures { OnOk result (string_bytes text.new ≡ string_bytes text.old ++ length_lines (findings_of boot.now)) }
 {
     for bit in 0..16 {
         push_length(text, is_told(boot, bit), bit + 1)?;

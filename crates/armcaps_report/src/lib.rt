@@ -11,9 +11,13 @@ mod hwcaps;
 mod lengths;
 mod registers;
 mod reporting;
+mod settled;
+#[cfg(test)]
+mod tests;
 mod varying;
 
 pub use causes::push_cause;
 pub use group::Group;
 pub use registers::push_register;
 pub use reporting::report;
+pub use settled::has_report;

@@ -1,13 +1,11 @@
 //! The groups of system registers, as they are and as users see them, and of those that vary.
 
 ghost use Rattle.std.specs.Prelude.{◌≡◌, ◌++◌, OnOk, string_bytes};
-ghost use Rattle.std.specs.List.{flat_map};
-ghost use Rattle.armcaps_enc.specs.Registers.{tracked};
 ghost use Rattle.armcaps_sanit.specs.System.{system_word};
 ghost use Rattle.armcaps_sanit.specs.Users.{user_word};
-ghost use Rattle.armcaps_boot.specs.Findings.{admitted, boot_core, findings_of};
+ghost use Rattle.armcaps_boot.specs.Findings.{admitted, findings_of};
 ghost use Rattle.armcaps_report.specs.Lines.{register_line, user_line, varies_line};
-ghost use Rattle.armcaps_report.specs.Report.{varies_among};
+ghost use Rattle.armcaps_report.specs.Report.{register_lines, user_lines, varies_lines};
 ghost use Rattle.armcaps_report.specs.Texts.{word_text};
 
 use crate::varying::varies_among;
@@ -58,8 +56,7 @@ fn push_variation(text: &mut String, register: SysReg, varies: bool) -> Result<(
 
 /// Adds the lines of the system registers.
 pub(crate) fn push_registers(text: &mut String, boot: &Boot) -> Result<(), AllocError>
-    ensures { OnOk result (string_bytes text.new ≡ string_bytes text.old
-        ++ flat_map (λ register. register_line register (system_word boot.now.overrides (admitted (findings_of boot.now)) register)) tracked) }
+    ensures { OnOk result (string_bytes text.new ≡ string_bytes text.old ++ register_lines (findings_of boot.now)) }
 {
     for register in SysReg::TRACKED {
         push_register(text, register, system_word(boot, register))?;
@@ -76,8 +73,7 @@ fn system_word(boot: &Boot, register: SysReg) -> u64
 
 /// Adds the lines of the system registers as users see them.
 pub(crate) fn push_user_words(text: &mut String, boot: &Boot) -> Result<(), AllocError>
-    ensures { OnOk result (string_bytes text.new ≡ string_bytes text.old
-        ++ flat_map (λ register. user_line register (user_word boot.now.overrides (admitted (findings_of boot.now)) register)) tracked) }
+    ensures { OnOk result (string_bytes text.new ≡ string_bytes text.old ++ user_lines (findings_of boot.now)) }
 {
     for register in SysReg::TRACKED {
         push_user_word(text, register, user_word(boot, register))?;
@@ -94,8 +90,7 @@ fn user_word(boot: &Boot, register: SysReg) -> u64
 
 /// Adds the lines of the registers that vary.
 pub(crate) fn push_variations(text: &mut String, boot: &Boot) -> Result<(), AllocError>
-    ensures { OnOk result (string_bytes text.new ≡ string_bytes text.old
-        ++ flat_map (λ register. varies_line register (varies_among (boot_core (findings_of boot.now)) (admitted (findings_of boot.now)) register)) tracked) }
+    ensures { OnOk result (string_bytes text.new ≡ string_bytes text.old ++ varies_lines (findings_of boot.now)) }
 {
     for register in SysReg::TRACKED {
         push_variation(text, register, varies_among(boot, register))?;

@@ -1,8 +1,8 @@
-use Rattle.std.proofs.Common.{◌&&◌, arith, sym, ◌∙◌}
+use Rattle.std.proofs.Common.{◌&&◌, false, arith, sym, ◌∙◌}
 use Rattle.armcaps_sanit.specs.Varying.{core_varies}
 use Rattle.armcaps_boot.specs.States.{is_admitted}
 use Rattle.armcaps_boot.specs.World.{boot_of, core_at, state_at}
-use Rattle.armcaps_report.proofs.Searching.{none_chosen, none_more, some_chosen}
+use Rattle.armcaps_report.proofs.Searching.{below_more, none_chosen, some_chosen}
 use Rattle.armcaps_report.proofs.varying.varies_among.Goals as goal
 
 pub returns-then-differs : goal.returns-then-differs
@@ -13,8 +13,8 @@ returns-then-differs c =
 
 pub loop-number-preserved : goal.loop-number-preserved
 loop-number-preserved c =
-    none_more (λ k. is_admitted (state_at c.args.boot.now.states k) && core_varies (boot_of c.args.boot.now) (core_at c.args.boot.now.cores k) c.args.register)
-    c.loop-number.number (sym c.differs.ensures ∙ c.if-differs.false) c.loop-number.invariant
+    below_more (λ k. is_admitted (state_at c.args.boot.now.states k) && core_varies (boot_of c.args.boot.now) (core_at c.args.boot.now.cores k) c.args.register)
+    false c.loop-number.number (sym c.differs.ensures ∙ c.if-differs.false) c.loop-number.invariant
 
 pub returns : goal.returns
 returns c =
