@@ -1,11 +1,11 @@
-ghost use Rattle.std.specs.Prelude.{◌≡◌, ◌≤◌, ℕ, None, length};
+ghost use Rattle.std.specs.Prelude.{◌≡◌, ◌≢◌, ◌≤◌, ℕ, None, length};
 ghost use Rattle.armcaps_enc.specs.declared.register.SysReg.TheVariants.{CtrEl0};
 ghost use Rattle.armcaps_tables.specs.Overriding.{override_of};
 
 use super::*;
 use armcaps_boot::{Boot, BootRefused, StepLine, events_of};
 use armcaps_enc::SysReg;
-use armcaps_tables::{CoreRegs, Overrides};
+use armcaps_tables::{CoreRegs, Overrides, find};
 use std::alloc::Global;
 use std::process::Abort;
 use std::test::Fail;
@@ -17,21 +17,16 @@ fn without_overrides() -> Overrides
     Overrides::none()
 }
 
-// An override of ID_AA64PFR0_EL1.SVE.
-fn sve(bits: u64) -> Overrides
+// An override of one field, by its name.
+fn forcing(reg: SysReg, name: &[u8], bits: u64) -> Overrides
+    requires { CtrEl0 ≢ reg }
     ensures { (index : ℕ) → override_of result CtrEl0 index ≡ None }
 {
+    let Some(index) = find(reg, name) else {
+        return without_overrides();
+    };
     let mut overrides = without_overrides();
-    overrides.set(SysReg::IdAa64Pfr0El1, 8, bits);
-    overrides
-}
-
-// An override of ID_AA64PFR1_EL1.SSBS.
-fn ssbs(bits: u64) -> Overrides
-    ensures { (index : ℕ) → override_of result CtrEl0 index ≡ None }
-{
-    let mut overrides = without_overrides();
-    overrides.set(SysReg::IdAa64Pfr1El1, 1, bits);
+    overrides.set(reg, index, bits);
     overrides
 }
 
@@ -78,7 +73,9 @@ fn core(reg: SysReg, word: u64) -> CoreRegs {
 }
 
 const FINALISE: StepLine = StepLine::Finalise;
+
 const EARLY: [StepLine; 2] = [StepLine::Online(1), StepLine::Finalise];
+
 const LATE: [StepLine; 2] = [StepLine::Finalise, StepLine::Online(1)];
 
 const WHOLE: &str = "armcaps report 1
@@ -133,20 +130,139 @@ fn whole_report(rt: HostRuntime) -> Result<(), Fail> {
 #[test]
 fn two_cores(rt: HostRuntime) -> Result<(), Fail> {
     let cases: [(SysReg, u64, u64, [StepLine; 2], &[&str]); 14] = [
-        (SysReg::IdAa64Isar0El1, 0x1000_1021_1120, 0x1_1120, EARLY, &["core 1 early", "reg id_aa64isar0_el1 0x0000000000011120", "varies id_aa64isar0_el1", "!cap 7 HAS_LSE_ATOMICS", "hwcap 0x00000000000008fb"]),
-        (SysReg::IdAa64Pfr0El1, 0, 0xf_0000, EARLY, &["reg id_aa64pfr0_el1 0x00000000000f0000", "!cap 41 HAS_FPSIMD", "hwcap 0x0000000000000802"]),
-        (SysReg::CtrEl0, 0x8444_8004, 0x8044_8004, EARLY, &["reg ctr_el0 0x0000000080448004", "cap 42 MISMATCHED_CACHE_TYPE"]),
-        (SysReg::CtrEl0, 0x8444_8004, 0x8544_8004, EARLY, &["reg ctr_el0 0x0000000085448004", "cap 42 MISMATCHED_CACHE_TYPE"]),
-        (SysReg::CtrEl0, 0x8444_c004, 0x8444_4004, EARLY, &["reg ctr_el0 0x0000000084448004", "!varies ctr_el0", "!cap 42 MISMATCHED_CACHE_TYPE"]),
-        (SysReg::CtrEl0, 0x8444_8004, 0x8443_8004, LATE, &["core 1 parked cap 42 MISMATCHED_CACHE_TYPE", "reg ctr_el0 0x0000000084448004", "!varies ctr_el0"]),
-        (SysReg::CtrEl0, 0x8444_c004, 0x8444_8004, LATE, &["core 1 late", "reg ctr_el0 0x0000000084448004"]),
-        (SysReg::IdAa64Isar0El1, 0x1021_1120, 0x1_1120, LATE, &["core 1 parked cap 7 HAS_LSE_ATOMICS", "reg id_aa64isar0_el1 0x0000000010211120", "!varies id_aa64isar0_el1"]),
-        (SysReg::MidrEl1, 0x410f_d034, 0x410f_d034, EARLY, &["cap 43 WORKAROUND_843419", "cap 44 WORKAROUND_845719"]),
-        (SysReg::IdAa64Isar0El1, 0x1_1120, 0x1_1020, LATE, &["core 1 parked hwcap sha1"]),
-        (SysReg::IdAa64Pfr1El1, 0x300, 0x200, EARLY, &["core 1 parked cap 6 MTE_ASYMM", "reg id_aa64pfr1_el1 0x0000000000000300", "hwcap2 0x0000000000440000"]),
-        (SysReg::IdAa64Isar1El1, 0x10, 0x100, EARLY, &["core 1 parked cap 2 HAS_ADDRESS_AUTH_ARCH_QARMA5"]),
-        (SysReg::IdAa64Pfr0El1, 0x11_0000, 0x11_0000, EARLY, &["hwcap 0x0000000000000e03", "flags fp asimd fphp asimdhp cpuid"]),
-        (SysReg::IdAa64Isar1El1, 0x1100_0010, 0x1100_0010, EARLY, &["hwcap 0x00000000c0000803", "flags fp asimd cpuid paca pacg"]),
+        (
+            SysReg::IdAa64Isar0El1,
+            0x1000_1021_1120,
+            0x1_1120,
+            EARLY,
+            &[
+                "core 1 early",
+                "reg id_aa64isar0_el1 0x0000000000011120",
+                "varies id_aa64isar0_el1",
+                "!cap 7 HAS_LSE_ATOMICS",
+                "hwcap 0x00000000000008fb",
+            ],
+        ),
+        (
+            SysReg::IdAa64Pfr0El1,
+            0,
+            0xf_0000,
+            EARLY,
+            &[
+                "reg id_aa64pfr0_el1 0x00000000000f0000",
+                "!cap 41 HAS_FPSIMD",
+                "hwcap 0x0000000000000802",
+            ],
+        ),
+        (
+            SysReg::CtrEl0,
+            0x8444_8004,
+            0x8044_8004,
+            EARLY,
+            &[
+                "reg ctr_el0 0x0000000080448004",
+                "cap 42 MISMATCHED_CACHE_TYPE",
+            ],
+        ),
+        (
+            SysReg::CtrEl0,
+            0x8444_8004,
+            0x8544_8004,
+            EARLY,
+            &[
+                "reg ctr_el0 0x0000000085448004",
+                "cap 42 MISMATCHED_CACHE_TYPE",
+            ],
+        ),
+        (
+            SysReg::CtrEl0,
+            0x8444_c004,
+            0x8444_4004,
+            EARLY,
+            &[
+                "reg ctr_el0 0x0000000084448004",
+                "!varies ctr_el0",
+                "!cap 42 MISMATCHED_CACHE_TYPE",
+            ],
+        ),
+        (
+            SysReg::CtrEl0,
+            0x8444_8004,
+            0x8443_8004,
+            LATE,
+            &[
+                "core 1 parked cap 42 MISMATCHED_CACHE_TYPE",
+                "reg ctr_el0 0x0000000084448004",
+                "!varies ctr_el0",
+            ],
+        ),
+        (
+            SysReg::CtrEl0,
+            0x8444_c004,
+            0x8444_8004,
+            LATE,
+            &["core 1 late", "reg ctr_el0 0x0000000084448004"],
+        ),
+        (
+            SysReg::IdAa64Isar0El1,
+            0x1021_1120,
+            0x1_1120,
+            LATE,
+            &[
+                "core 1 parked cap 7 HAS_LSE_ATOMICS",
+                "reg id_aa64isar0_el1 0x0000000010211120",
+                "!varies id_aa64isar0_el1",
+            ],
+        ),
+        (
+            SysReg::MidrEl1,
+            0x410f_d034,
+            0x410f_d034,
+            EARLY,
+            &["cap 43 WORKAROUND_843419", "cap 44 WORKAROUND_845719"],
+        ),
+        (
+            SysReg::IdAa64Isar0El1,
+            0x1_1120,
+            0x1_1020,
+            LATE,
+            &["core 1 parked hwcap sha1"],
+        ),
+        (
+            SysReg::IdAa64Pfr1El1,
+            0x300,
+            0x200,
+            EARLY,
+            &[
+                "core 1 parked cap 6 MTE_ASYMM",
+                "reg id_aa64pfr1_el1 0x0000000000000300",
+                "hwcap2 0x0000000000440000",
+            ],
+        ),
+        (
+            SysReg::IdAa64Isar1El1,
+            0x10,
+            0x100,
+            EARLY,
+            &["core 1 parked cap 2 HAS_ADDRESS_AUTH_ARCH_QARMA5"],
+        ),
+        (
+            SysReg::IdAa64Pfr0El1,
+            0x11_0000,
+            0x11_0000,
+            EARLY,
+            &[
+                "hwcap 0x0000000000000e03",
+                "flags fp asimd fphp asimdhp cpuid",
+            ],
+        ),
+        (
+            SysReg::IdAa64Isar1El1,
+            0x1100_0010,
+            0x1100_0010,
+            EARLY,
+            &["hwcap 0x00000000c0000803", "flags fp asimd cpuid paca pacg"],
+        ),
     ];
     for (reg, boot, other, steps, lines) in cases {
         let cores = [core(reg, boot), core(reg, other)];
@@ -171,17 +287,55 @@ fn with_lengths(mut core: CoreRegs, vls: u16) -> CoreRegs {
 fn overrides(rt: HostRuntime) -> Result<(), Fail> {
     let boot = core(SysReg::IdAa64Pfr0El1, 0x1_0000_0000);
     let cores = [also(boot, SysReg::IdAa64Pfr1El1, 0x20), boot];
-    let report = report_after(&rt, rt.alloc(), &cores, sve(0), &[FINALISE])?;
-    tells(&rt, &report, &["core 1 absent", "note id_aa64pfr0.sve forced", "reg id_aa64pfr0_el1 0x0000000000000000"]);
-    let report = report_after(&rt, rt.alloc(), &cores, sve(2), &[FINALISE])?;
-    tells(&rt, &report, &["note id_aa64pfr0.sve ignored", "reg id_aa64pfr0_el1 0x0000000100000000", "cap 36 SVE"]);
-    let report = report_after(&rt, rt.alloc(), &cores, ssbs(1), &LATE)?;
-    tells(&rt, &report, &[
-        "core 1 parked cap 40 SSBS",
-        "note id_aa64pfr1.ssbs forced",
-        "reg id_aa64pfr1_el1 0x0000000000000010",
-        "cap 40 SSBS",
-    ]);
+    let report = report_after(
+        &rt,
+        rt.alloc(),
+        &cores,
+        forcing(SysReg::IdAa64Pfr0El1, b"sve", 0),
+        &[FINALISE],
+    )?;
+    tells(
+        &rt,
+        &report,
+        &[
+            "core 1 absent",
+            "note id_aa64pfr0.sve forced",
+            "reg id_aa64pfr0_el1 0x0000000000000000",
+        ],
+    );
+    let report = report_after(
+        &rt,
+        rt.alloc(),
+        &cores,
+        forcing(SysReg::IdAa64Pfr0El1, b"sve", 2),
+        &[FINALISE],
+    )?;
+    tells(
+        &rt,
+        &report,
+        &[
+            "note id_aa64pfr0.sve ignored",
+            "reg id_aa64pfr0_el1 0x0000000100000000",
+            "cap 36 SVE",
+        ],
+    );
+    let report = report_after(
+        &rt,
+        rt.alloc(),
+        &cores,
+        forcing(SysReg::IdAa64Pfr1El1, b"ssbs", 1),
+        &LATE,
+    )?;
+    tells(
+        &rt,
+        &report,
+        &[
+            "core 1 parked cap 40 SSBS",
+            "note id_aa64pfr1.ssbs forced",
+            "reg id_aa64pfr1_el1 0x0000000000000010",
+            "cap 40 SSBS",
+        ],
+    );
     Ok(())
 }
 
@@ -189,7 +343,12 @@ fn overrides(rt: HostRuntime) -> Result<(), Fail> {
 #[test]
 fn several_cores(rt: HostRuntime) -> Result<(), Fail> {
     let sve = core(SysReg::IdAa64Pfr0El1, 0x1_0000_0000);
-    let cores = [with_lengths(sve, 3), with_lengths(sve, 7), with_lengths(sve, 1), with_lengths(sve, 0xb)];
+    let cores = [
+        with_lengths(sve, 3),
+        with_lengths(sve, 7),
+        with_lengths(sve, 1),
+        with_lengths(sve, 0xb),
+    ];
     let steps = [
         StepLine::Online(1),
         FINALISE,
@@ -200,12 +359,37 @@ fn several_cores(rt: HostRuntime) -> Result<(), Fail> {
         StepLine::Store(2),
     ];
     let report = report_after(&rt, rt.alloc(), &cores, without_overrides(), &steps)?;
-    tells(&rt, &report, &["core 1 early offline", "core 2 parked vl 256", "core 3 late", "vl 128", "vl 256", "!vl 512"]);
-    let report = report_after(&rt, rt.alloc(), &[sve, sve, sve], without_overrides(), &LATE)?;
+    tells(
+        &rt,
+        &report,
+        &[
+            "core 1 early offline",
+            "core 2 parked vl 256",
+            "core 3 late",
+            "vl 128",
+            "vl 256",
+            "!vl 512",
+        ],
+    );
+    let report = report_after(
+        &rt,
+        rt.alloc(),
+        &[sve, sve, sve],
+        without_overrides(),
+        &LATE,
+    )?;
     tells(&rt, &report, &["core 1 late", "core 2 absent", "!vl 128"]);
     let boot = also(core(SysReg::MidrEl1, 0x410f_d034), SysReg::RevidrEl1, 0x100);
     let cores = [boot, core(SysReg::MidrEl1, 0x410f_d034)];
     let report = report_after(&rt, rt.alloc(), &cores, without_overrides(), &LATE)?;
-    tells(&rt, &report, &["core 1 parked cap 43 WORKAROUND_843419", "!cap 43 WORKAROUND_843419", "cap 44 WORKAROUND_845719"]);
+    tells(
+        &rt,
+        &report,
+        &[
+            "core 1 parked cap 43 WORKAROUND_843419",
+            "!cap 43 WORKAROUND_843419",
+            "cap 44 WORKAROUND_845719",
+        ],
+    );
     Ok(())
 }
