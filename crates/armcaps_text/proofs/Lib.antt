@@ -11,6 +11,7 @@ pub mod LastLine
 pub mod History
 pub mod OnlineSteps
 pub mod MovedWords
+pub mod LaidBytes
 pub mod Soundness
 pub mod Images
 pub mod Readings

@@ -14,7 +14,7 @@ use Rattle.armcaps_insn.specs.Decoded.{base_of, decoded, insn_of}
 use Rattle.armcaps_insn.specs.Encodings.{class_of, encodings}
 use Rattle.armcaps_insn.specs.Immediates.{immediate, immediate_of, is_in_range, offset_in, rest_in, with_offset}
 use Rattle.armcaps_insn.specs.Moved.{corrected, corrected_by, is_inside, offset_to, relocated}
-use Rattle.armcaps_insn.proofs.Moves.{new_decoded}
+use Rattle.armcaps_insn.proofs.Moves.{new_decoded, new_fits}
 
 -- a word is corrected
 abbrev pub IsCorrected : Result ℕ FixRefused → Type 0
@@ -136,6 +136,20 @@ call_moves target from to low high t f o = elim (cases_lt target from) [
         subst (λ (o : ℤ). IsCorrected (corrected (with_offset (immediate 0x03ffffff 0 26 0 2) 0x94000000 o) (4 * from) (4 * to) low high)) (sym e)
         (reaches 0x03ffffff 0 26 0 2 Jump26 word (4 * from) (4 * to) low high (pos (4 * target)) refl class back near)
 
+-- it has 32 bits
+pub call_fits : (target from : ℕ) → target < 2 ^ 22 → from < 2 ^ 22 → with_offset (immediate 0x03ffffff 0 26 0 2) 0x94000000 (pos (4 * target) -ℤ pos (4 * from)) < 2 ^ 32
+call_fits target from t f = elim (cases_lt target from) [
+  | inl back ↦ by_steps (negsuc (from - suc target)) (omega (arith, ints))
+  | inr forth ↦ by_steps (pos (target - from)) (omega (arith, ints))
+]
+  where
+    by_steps : (steps : ℤ) → pos (4 * target) -ℤ pos (4 * from) ≡ steps *ℤ pos 4 → with_offset (immediate 0x03ffffff 0 26 0 2) 0x94000000 (pos (4 * target) -ℤ pos (4 * from)) < 2 ^ 32
+    by_steps steps e =
+        let range : is_in_range (immediate 0x03ffffff 0 26 0 2) (pos (4 * target) -ℤ pos (4 * from)) ≡ true = grind (arith, ints) in
+        let there : is_in_range (immediate 0x03ffffff 0 26 0 2) (steps *ℤ pos 4) ≡ true = ap (is_in_range (immediate 0x03ffffff 0 26 0 2)) (sym e) ∙ range in
+        subst (λ (o : ℤ). with_offset (immediate 0x03ffffff 0 26 0 2) 0x94000000 o < 2 ^ 32) (sym e)
+        (new_fits 0x94000000 (immediate 0x03ffffff 0 26 0 2) call_lies steps (lit< tt) there)
+
 page_lies : immediate_of (class_of 0x90000000) ≡ Some (immediate 0x60ffffe0 5 19 2 12)
 unfolding class_of encodings
 page_lies = refl
@@ -168,3 +182,17 @@ page_moves target from to low high t f o = elim (cases_lt target (from / 4096)) 
         let near : is_in_range (immediate 0x60ffffe0 5 19 2 12) (pos (4096 * target) -ℤ pos (to / 4096 * 4096)) ≡ true = grind (arith, ints) in
         subst (λ (o : ℤ). IsCorrected (corrected (with_offset (immediate 0x60ffffe0 5 19 2 12) 0x90000000 o) from to low high)) (sym e)
         (reaches 0x60ffffe0 5 19 2 12 Page word from to low high (pos (4096 * target)) refl class back near)
+
+-- it has 32 bits
+pub page_fits : (target from : ℕ) → target < 2 ^ 12 → from < 2 ^ 24 → with_offset (immediate 0x60ffffe0 5 19 2 12) 0x90000000 (pos (4096 * target) -ℤ pos (from / 4096 * 4096)) < 2 ^ 32
+page_fits target from t f = elim (cases_lt target (from / 4096)) [
+  | inl back ↦ by_steps (negsuc (from / 4096 - suc target)) (omega (arith, ints))
+  | inr forth ↦ by_steps (pos (target - from / 4096)) (omega (arith, ints))
+]
+  where
+    by_steps : (steps : ℤ) → pos (4096 * target) -ℤ pos (from / 4096 * 4096) ≡ steps *ℤ pos 4096 → with_offset (immediate 0x60ffffe0 5 19 2 12) 0x90000000 (pos (4096 * target) -ℤ pos (from / 4096 * 4096)) < 2 ^ 32
+    by_steps steps e =
+        let range : is_in_range (immediate 0x60ffffe0 5 19 2 12) (pos (4096 * target) -ℤ pos (from / 4096 * 4096)) ≡ true = grind (arith, ints) in
+        let there : is_in_range (immediate 0x60ffffe0 5 19 2 12) (steps *ℤ pos 4096) ≡ true = ap (is_in_range (immediate 0x60ffffe0 5 19 2 12)) (sym e) ∙ range in
+        subst (λ (o : ℤ). with_offset (immediate 0x60ffffe0 5 19 2 12) 0x90000000 o < 2 ^ 32) (sym e)
+        (new_fits 0x90000000 (immediate 0x60ffffe0 5 19 2 12) page_lies steps (lit< tt) there)
