@@ -15,3 +15,5 @@ pub mod LaidBytes
 pub mod Soundness
 pub mod Images
 pub mod Readings
+pub mod Drawing
+pub mod Laying

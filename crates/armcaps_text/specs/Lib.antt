@@ -14,3 +14,5 @@ pub mod Document
 pub mod Sound
 pub mod Reader
 pub mod Refusal
+pub mod Generator
+pub mod LargeImage

@@ -1,11 +1,16 @@
 //! The machine text: what it says of a machine, and where and why another text is refused.
 #![tactic(auto)]
 
+mod alternative;
 mod arguments;
+mod draws;
 mod form;
 mod format;
+mod generator;
+mod instruction;
 mod kind;
 mod kinds;
+mod large_image;
 pub mod laws;
 mod line;
 mod lines;
@@ -16,6 +21,7 @@ mod steps;
 mod tokens;
 
 pub use format::Format;
+pub use generator::generate;
 pub use kind::{TextKind, TextRefused};
 pub use machine::Machine;
 

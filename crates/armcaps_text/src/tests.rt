@@ -1,5 +1,5 @@
 // Texts and what becomes of them.
-use crate::{Format, Machine, TextKind, TextRefused};
+use crate::{Format, Machine, TextKind, TextRefused, generate};
 use armcaps_alt::{CallbackKind, Conduit, Layout, Named};
 use armcaps_boot::StepLine;
 use armcaps_enc::SysReg;
@@ -443,5 +443,26 @@ fn prints_a_refusal(rt: HostRuntime) -> Result<(), Fail> {
     };
     let text = format!(in rt.alloc(); "{refused}")?;
     assert_eq!(rt; text.as_str(), "line 7: kind 13 turn");
+    Ok(())
+}
+
+#[test]
+fn makes_a_machine_from_a_number(rt: HostRuntime) -> Result<(), Fail> {
+    let (machine, image) = generate(rt.alloc(), 7, 8)?;
+    assert_eq!(rt; machine.cores.len(), 8);
+    assert_eq!(rt; machine.cores[4].get(SysReg::MidrEl1), 0x410f_d092);
+    assert_eq!(rt; machine.cores[5].get(SysReg::MidrEl1), 0x410f_d034);
+    assert_eq!(rt; image.len(), 2_097_152);
+    let entry = [0, 0, 4, 0, 0xfc, 0xff, 0x0f, 0, 0x17, 0, 16, 16];
+    assert_eq!(rt; &image[..12], entry.as_slice());
+    let words = [
+        0x2f, 0x03, 0xfd, 0x97, 0x1f, 0x20, 0x03, 0xd5, 0x80, 0x02, 0x00, 0xf0, 0x1f, 0x20, 0x03,
+        0xd5,
+    ];
+    assert_eq!(rt; &image[1_048_576..1_048_592], words.as_slice());
+    let last = [
+        0x20, 0x8d, 0x84, 0x52, 0x40, 0xf5, 0xff, 0xf0, 0x88, 0x90, 0xfa, 0x97,
+    ];
+    assert_eq!(rt; &image[1_688_544..1_688_556], last.as_slice());
     Ok(())
 }
