@@ -17,3 +17,4 @@ pub mod Images
 pub mod Readings
 pub mod Drawing
 pub mod Laying
+pub mod GeneratedEntries

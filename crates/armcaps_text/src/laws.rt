@@ -1,11 +1,23 @@
 //! Laws of machine texts.
 
-ghost use Rattle.std.specs.Prelude.{◌≡◌, ◌≤◌, ℕ, List, length};
+ghost use Rattle.std.specs.Prelude.{◌≡◌, ◌≤◌, ℕ, List, None, length};
+ghost use Rattle.armcaps_alt.specs.Entries.{Features};
+ghost use Rattle.armcaps_alt.specs.Refusals.{first_refusal};
 ghost use Rattle.armcaps_text.specs.Document.{Reading, Reads, outcome};
+ghost use Rattle.armcaps_text.specs.Generator.{generated_reading};
+ghost use Rattle.armcaps_text.specs.LargeImage.{generated_image};
 ghost use Rattle.armcaps_text.specs.Sound.{IsSound};
 
 /// Of every input whose text reads: the reading is sound, and its last line ends within the input.
 pub fn readings_are_sound()
     ensures sound { (input : List ℕ) (reading : Reading) (place : ℕ) → outcome input ≡ Reads reading place → IsSound reading }
     ensures place { (input : List ℕ) (reading : Reading) (place : ℕ) → outcome input ≡ Reads reading place → place ≤ length input }
+{}
+
+/// Of every machine that is generated from a number: its image is as long as its reading says, and no entry of its table
+/// is refused, whatever the machine has.
+pub fn generated_images_are_not_refused()
+    ensures length { (seed cores : ℕ) → length (generated_image seed cores) ≡ (generated_reading seed cores).image }
+    ensures none { (seed cores : ℕ) (features : Features) → features.names ≡ (generated_reading seed cores).names
+        → first_refusal features (generated_image seed cores) (generated_reading seed cores).layout ≡ None }
 {}
