@@ -18,3 +18,4 @@ pub mod Readings
 pub mod Drawing
 pub mod Laying
 pub mod GeneratedEntries
+pub mod GeneratedReading

@@ -3,6 +3,8 @@
 ghost use Rattle.std.specs.Prelude.{◌≡◌, ◌≤◌, ℕ, List, None, length};
 ghost use Rattle.armcaps_alt.specs.Entries.{Features};
 ghost use Rattle.armcaps_alt.specs.Refusals.{first_refusal};
+ghost use Rattle.armcaps_boot.specs.Admission.{halt_of};
+ghost use Rattle.armcaps_boot.specs.Steps.{history};
 ghost use Rattle.armcaps_text.specs.Document.{Reading, Reads, outcome};
 ghost use Rattle.armcaps_text.specs.Generator.{generated_reading};
 ghost use Rattle.armcaps_text.specs.LargeImage.{generated_image};
@@ -20,4 +22,12 @@ pub fn generated_images_are_not_refused()
     ensures length { (seed cores : ℕ) → length (generated_image seed cores) ≡ (generated_reading seed cores).image }
     ensures none { (seed cores : ℕ) (features : Features) → features.names ≡ (generated_reading seed cores).names
         → first_refusal features (generated_image seed cores) (generated_reading seed cores).layout ≡ None }
+{}
+
+/// Of every machine that is made from a number: its reading is sound, and no step of it stops it.
+pub fn generated_machines_are_sound()
+    ensures sound { (seed cores : ℕ) → 1 ≤ cores → cores ≤ 64 → IsSound (generated_reading seed cores) }
+    ensures up { (seed cores : ℕ) → 1 ≤ cores → halt_of
+        (record { cores = (generated_reading seed cores).cores; boot = (generated_reading seed cores).boot; overrides = (generated_reading seed cores).overrides })
+        (history (generated_reading seed cores).steps) ≡ None }
 {}
