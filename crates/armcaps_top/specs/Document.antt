@@ -1,20 +1,48 @@
--- Which inputs are documents. The format is this project's own.
-use Rattle.std.specs.Prelude.{◌≡◌, ℕ, ◌==◌, List, length, Option, None, Some, if◌then◌else◌}
-use Rattle.armcaps_cmdline.specs.Overrides.{command_line_overrides}
-use Rattle.armcaps_early_text.specs.Document.{Reading, Outcome, Reads, Refuses, outcome, reading_of}
-use Rattle.armcaps_early_text.specs.declared.machine.Machine.{Machine}
+-- Which inputs are documents, and why another is none. The formats, limits and texts are this project's own.
+use Rattle.std.specs.Prelude.{ℕ, ◌-◌, ◌++◌, nat_lt, if◌then◌else◌, List, length, drop, codes, Option, Some, None, Result, Ok, Err}
+use Rattle.std.specs.Fmt.{decimal}
+use Rattle.armcaps_text.specs.Document.{Reading, Outcome, Reads, Refuses, outcome}
+use Rattle.armcaps_text.specs.Formats.{format_of}
+use Rattle.armcaps_text.specs.Refusal.{refusal_text}
+use Rattle.armcaps_text.specs.declared.kind.TextRefused.TheVariants as refused
+use Rattle.armcaps_top.specs.declared.refusal.Refusal.{Refusal}
+use Rattle.armcaps_top.specs.declared.refusal.Refusal.TheVariants.{Line, TooLong, ImageShort, Trailing}
 
--- the reading of a text, where the input of this many bytes ends with the text's last line
-abbrev pub whole_reading : Outcome → ℕ → Option Reading
-whole_reading (Reads reading place) size = if place == size then Some reading else None
-whole_reading (Refuses line kind) size = None
+-- what a document says: what its text reads as, and the bytes of the image after the text
+pub record Document : Type 0 where
+  pub reading : Reading
+  pub image : List ℕ
 
--- what an input reads as: its text has no fault, and nothing follows its last line
-unfoldable pub document : List ℕ → Option Reading
-document input = whole_reading (outcome input) (length input)
+-- why so many bytes after the text are not those of an image of this length: they are fewer, or more
+abbrev pub image_refusal : ℕ → ℕ → Option Refusal
+image_refusal image given =
+    if nat_lt given image then Some (ImageShort given image)
+    else if nat_lt image given then Some (Trailing (given - image)) else None
 
--- the machine is what an input reads as, and its overrides are those of the command line
-pub record IsMachineOf (input : List ℕ) (machine : Machine) : Type 0 where
-  pub cmdline : List ℕ
-  pub reads : document input ≡ Some (reading_of machine cmdline)
-  pub overrides : machine.overrides ≡ command_line_overrides cmdline
+abbrev pub unless_refused : Option Refusal → Document → Result Document Refusal
+unless_refused None found = Ok found
+unless_refused (Some refusal) found = Err refusal
+
+-- of a text that reads so up to this place
+abbrev pub with_image : Reading → ℕ → List ℕ → Result Document Refusal
+with_image reading place input =
+    unless_refused (image_refusal reading.image (length input - place)) (record { reading = reading; image = drop place input })
+
+-- of an input whose text comes to this
+abbrev pub document_after : Outcome → List ℕ → Result Document Refusal
+document_after (Refuses line kind) input = Err (Line line kind)
+document_after (Reads reading place) input = with_image reading place input
+
+-- the document that an input is, or why it is none: more bytes than its format allows, a kind at a line of its text, or
+-- fewer or more bytes after the text than the image has
+unfoldable pub document : List ℕ → Result Document Refusal
+document input =
+    let limit = (format_of input).input in
+    if nat_lt limit (length input) then Err (TooLong limit) else document_after (outcome input) input
+
+-- the text of a refusal, as `line 7: kind 13 turn`
+unfoldable pub refused_text : Refusal → List ℕ
+refused_text (Line line kind) = refusal_text (refused.Line line kind)
+refused_text (TooLong limit) = codes "input longer than " ++ decimal limit ++ codes " bytes"
+refused_text (ImageShort got of) = codes "image short: " ++ decimal got ++ codes " of " ++ decimal of ++ codes " bytes"
+refused_text (Trailing extra) = codes "trailing bytes: " ++ decimal extra

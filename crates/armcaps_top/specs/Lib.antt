@@ -1,7 +1,10 @@
-pub mod Admission
 pub mod Document
-pub mod Report
-pub mod Refusals
+pub mod Commands
+pub mod Mrs
+pub mod Trace
+pub mod Output
 pub mod Ending
 pub mod Telling
 pub mod Run
+pub mod Bringing
+pub mod Inside

@@ -1,43 +1,59 @@
 -- What a run does with its words and its input. Words, statuses and texts are this project's own.
-use Rattle.std.specs.Prelude.{◌≡◌, ◌≢◌, ◌↔◌, ◌⊎◌, ◌≤◌, ℕ, Bool, true, false, List, [], ◌∷◌, Option, None, Some, codes, IsSome, IsSomeAnd, IfSome}
+use Rattle.std.specs.Prelude.{◌≡◌, ◌≢◌, ◌↔◌, ◌⊎◌, ◌==◌, ◌||◌, ◌≤◌, ℕ, Bool, true, List, [], ◌∷◌, Option, None, Some, Result, Ok, Err, IfSome, IsSome}
 use Rattle.std.specs.Option.{option_map}
-use Rattle.std.specs.Str.{bytes_eq}
+use Rattle.std.specs.Result.{IsOkAnd, IsErr}
+use Rattle.armcaps_tables.specs.Core.{Core}
+use Rattle.armcaps_boot.specs.declared.event.Event.{Event}
+use Rattle.armcaps_boot.specs.declared.halt.Halt.{Halt}
+use Rattle.armcaps_boot.specs.After.{IsAfter}
+use Rattle.armcaps_boot.specs.Admission.{admitted_of, halt_of, steps_made}
+use Rattle.armcaps_boot.specs.Outcome.{IsSafe}
+use Rattle.armcaps_boot.specs.Steps.{history}
+use Rattle.armcaps_boot.specs.World.{World}
 use Rattle.armcaps_io.specs.Causes.{Rose}
 use Rattle.armcaps_io.specs.Streams.{Appends, AppendsPrefix, Keeps}
-use Rattle.armcaps_cmdline.specs.Overrides.{command_line_overrides}
-use Rattle.armcaps_top.specs.Document.{document}
-use Rattle.armcaps_top.specs.declared.ending.Ending.{Ending}
-use Rattle.armcaps_top.specs.declared.ending.Ending.TheVariants.{Done, Usage, Refused, ReadFault, WriteFault, Memory}
+use Rattle.armcaps_top.specs.Commands.{command_of}
+use Rattle.armcaps_top.specs.Document.{Document, document}
 use Rattle.armcaps_top.specs.Ending.{status_of}
-use Rattle.armcaps_top.specs.Refusals.{IsRefusalOf}
-use Rattle.armcaps_top.specs.Report.{report_of}
+use Rattle.armcaps_top.specs.Output.{board_of, output_after}
 use Rattle.armcaps_top.specs.Telling.{Tells}
+use Rattle.armcaps_top.specs.declared.commands.Command.{Command}
+use Rattle.armcaps_top.specs.declared.commands.mrs.ReadRefused.{ReadRefused}
+use Rattle.armcaps_top.specs.declared.ending.Ending.{Ending}
+use Rattle.armcaps_top.specs.declared.ending.Ending.TheVariants.{Done, Usage, Refused, ReadFault, WriteFault, Memory, Panicked, NotRead}
+use Rattle.armcaps_top.specs.declared.refusal.Refusal.{Refusal}
 
--- the one form of words: `report`
-abbrev pub is_form : List (List ℕ) → Bool
-is_form [] = false
-is_form (word ∷ []) = bytes_eq word (codes "report")
-is_form (word ∷ next ∷ words) = false
+-- the steps of a document, the newest first
+abbrev pub steps_of : Document → List Event
+steps_of found = history found.reading.steps
 
--- what is written for an input: the report under the overrides of its command line; nothing where it is no document
-abbrev pub output_of : List ℕ → Option (List ℕ)
-output_of bytes = option_map (λ reading. report_of (command_line_overrides reading.cmdline) reading) (document bytes)
+-- what stops the machine of a document, if a step of it does
+abbrev pub halt_in : Document → Option Halt
+halt_in found = halt_of (board_of found.reading) (steps_of found)
 
--- the input, where its bytes are told, is a document, and its output was added whole
-abbrev pub Writes : Option (List ℕ) → Option (List ℕ) → Option (List ℕ) → Type 0
-Writes input old new = IfSome input (λ bytes. IsSomeAnd (output_of bytes) (λ output. Appends old new output))
+-- the cores of a document that were ever admitted
+abbrev pub admitted_in : Document → List Core
+admitted_in found = admitted_of (board_of found.reading) (steps_of found)
 
--- the same with a first part of the output
-abbrev pub WritesPrefix : Option (List ℕ) → Option (List ℕ) → Option (List ℕ) → Type 0
-WritesPrefix input old new = IfSome input (λ bytes. IsSomeAnd (output_of bytes) (λ output. AppendsPrefix old new output))
+-- what is written of a document, or why an input is none
+abbrev pub written_of : Command → Result Document Refusal → Result (List ℕ) Ending
+written_of command (Ok found) = output_after command (board_of found.reading) (steps_of found)
+written_of command (Err refusal) = Err (Refused refusal)
 
--- the input, where its bytes are told, is no document
-abbrev pub IsRefused : Option (List ℕ) → Type 0
-IsRefused input = IfSome input (λ bytes. document bytes ≡ None)
+-- what a command works on: the document that the input is, where its bytes are told
+abbrev pub document_for : Option Command → Option (List ℕ) → Option (Result Document Refusal)
+document_for None input = None
+document_for (Some command) input = option_map document input
 
--- all of the input was read, where its bytes are told
-abbrev pub IsReadWhole : Option (List ℕ) → Option (List ℕ) → Type 0
-IsReadWhole old new = IfSome old (λ bytes. new ≡ Some [])
+-- what is written under a command, or else how the run ends, where the input's bytes are told
+abbrev pub answer_for : Option Command → Option (List ℕ) → Option (Result (List ℕ) Ending)
+answer_for None input = Some (Err Usage)
+answer_for (Some command) input = option_map (written_of command) (document_for (Some command) input)
+
+-- the status of such an answer
+abbrev pub answer_status : Result (List ℕ) Ending → ℕ
+answer_status (Ok output) = 0
+answer_status (Err ending) = status_of ending
 
 -- a stream before and after a call: its bytes, where it tells them, and how often it failed
 pub record Change : Type 0 where
@@ -46,44 +62,83 @@ pub record Change : Type 0 where
   pub before : ℕ
   pub now : ℕ
 
--- why a command ends so
-abbrev pub Reason : Change → Change → Ending → Type 0
-Reason input out Done = Writes input.old out.old out.new × IsReadWhole input.old input.new
-Reason input out Usage = Unit {0}
-Reason input out (Refused refusal) = IfSome input.old (IsRefusalOf refusal)
-Reason input out ReadFault = Rose input.before input.now
-Reason input out WriteFault = Rose out.before out.now × WritesPrefix input.old out.old out.new
-Reason input out Memory = Unit {0}
+-- this holds of the document that a command works on, where the input's bytes are told
+abbrev pub IsDocumentAnd : Option Command → Change → (Document → Type 0) → Type 0
+IsDocumentAnd command input P = IfSome (document_for command input.old) (λ found. IsOkAnd found P)
 
--- what a command does that ends so
-pub record Performs (input out : Change) (ending : Ending) : Type 0 where
-  pub form : ending ≢ Usage
-  pub reason : Reason input out ending
-  pub refused : status_of ending ≡ 3 → IsRefused input.old
-  pub silent : ending ≢ Done → ending ≢ WriteFault → Keeps out.old out.new
-  pub input_count : input.before ≤ input.now
-  pub out_count : out.before ≤ out.now
+-- what is written was added to the output, where the input's bytes are told: whole, or a first part of it
+abbrev pub Writes : Option Command → Change → Change → Type 0
+Writes command input out = IfSome (answer_for command input.old) (λ answer. IsOkAnd answer (Appends out.old out.new))
 
--- what a run promises of its words, its input, the output and the error stream, and its status
-pub record Promises (words : List (List ℕ)) (input out err : Change) (status : ℕ) : Type 0 where
+abbrev pub WritesPrefix : Option Command → Change → Change → Type 0
+WritesPrefix command input out = IfSome (answer_for command input.old) (λ answer. IsOkAnd answer (AppendsPrefix out.old out.new))
+
+-- all of the input was read, where its bytes are told
+abbrev pub IsReadWhole : Change → Type 0
+IsReadWhole input = IfSome input.old (λ bytes. input.new ≡ Some [])
+
+-- why a run ends so
+abbrev pub Reason : Option Command → Change → Change → Ending → Type 0
+Reason command input out Done = Writes command input out × IsReadWhole input
+Reason command input out Usage = (command ≡ None) × Keeps input.old input.new
+Reason command input out (Refused refusal) = IfSome (document_for command input.old) (λ found. found ≡ Err refusal)
+Reason command input out ReadFault = Rose input.before input.now
+Reason command input out WriteFault = Rose out.before out.now × WritesPrefix command input out
+Reason command input out Memory = Unit {0}
+Reason command input out (Panicked halt) = IsDocumentAnd command input (λ found. halt_in found ≡ Some halt)
+Reason command input out (NotRead refused) = IfSome (answer_for command input.old) (λ answer. answer ≡ Err (NotRead refused))
+
+-- the machine of a document: its steps were made in their order, up to one that stopped it
+abbrev pub IsMachineOf : Document → World → Type 0
+IsMachineOf found world = IsAfter (board_of found.reading) (steps_made (board_of found.reading) (steps_of found)) world
+
+-- one machine is left, which is that of the document
+abbrev pub LeavesMachine : Option Command → Change → List World → Type 0
+LeavesMachine command input [] = ⊥
+LeavesMachine command input (world ∷ []) = IsDocumentAnd command input (λ found. IsMachineOf found world)
+LeavesMachine command input (world ∷ next ∷ more) = ⊥
+
+-- a run that ends with this status has brought a machine up
+abbrev pub has_machine : ℕ → Bool
+has_machine status = (status == 0) || (status == 5) || (status == 7) || (status == 9)
+
+-- the answer is that nothing is read
+abbrev pub IsReadRefused : Result (List ℕ) Ending → Type 0
+IsReadRefused answer = (refused : ReadRefused) × (answer ≡ Err (NotRead refused))
+
+-- what a run promises of its words, its input, the output and the error stream, the machines that it leaves, and its status
+pub record Promises (words : List (List ℕ)) (input out err : Change) (machines : List World) (status : ℕ) : Type 0 where
   -- there is an ending whose status and reason these are, and whose line the error stream got
   pub ending : Ending
   pub status_is : status ≡ status_of ending
-  pub reason : Reason input out ending
+  pub reason : Reason (command_of words) input out ending
   pub told : Tells ending err.old err.new err.before err.now
   -- the words are no form, and the input is as it was
-  pub usage : (status ≡ 2) ↔ (is_form words ≡ false)
+  pub usage : (status ≡ 2) ↔ (command_of words ≡ None)
   pub unread : status ≡ 2 → Keeps input.old input.new
-  -- the whole input was read, it is a document, and the output got its report and nothing else
-  pub done : status ≡ 0 → Writes input.old out.old out.new × IsReadWhole input.old input.new
+  -- the whole input was read, it is a document, and the output got what the command writes of it and nothing else
+  pub done : status ≡ 0 → Writes (command_of words) input out × IsReadWhole input
+  -- of that document: each enabled system feature is had by every admitted core, each workaround that an admitted core needs is
+  -- enabled, and a core with steps is admitted, or parked by its first cause
+  pub safe : status ≡ 0 → IsDocumentAnd (command_of words) input (λ found. IsSafe (board_of found.reading) (steps_of found))
   -- the input's bytes are no document
-  pub refused : status ≡ 3 → IsRefused input.old
-  -- the input, or the output, failed in this call; the output got a first part of the report
+  pub refused : status ≡ 3 → IfSome (document_for (command_of words) input.old) IsErr
+  -- the input, or the output, failed in this call; the output got a first part of what the command writes
   pub read_fault : status ≡ 4 → Rose input.before input.now
-  pub write_fault : status ≡ 5 → Rose out.before out.now × WritesPrefix input.old out.old out.new
+  pub write_fault : status ≡ 5 → Rose out.before out.now × WritesPrefix (command_of words) input out
+  -- the input is a document of which a step stops the machine
+  pub stopped : status ≡ 7 → IsDocumentAnd (command_of words) input (λ found. IsSome (halt_in found))
+  -- the core of `mrs` is not admitted, or its word reads no register
+  pub not_read : status ≡ 9 → IfSome (answer_for (command_of words) input.old) IsReadRefused
   -- in every status but 0 and 5 the output got nothing
   pub silent : status ≢ 0 → status ≢ 5 → Keeps out.old out.new
-  pub statuses : (status ≡ 0) ⊎ ((2 ≤ status) × (status ≤ 6))
-  -- a form, a document and no failure give the whole output, or there was no memory
-  pub complete : (bytes : List ℕ) → is_form words ≡ true → input.old ≡ Some bytes → IsSome (document bytes) →
-      (Rose input.before input.now → ⊥) → (Rose out.before out.now → ⊥) → (status ≡ 0) ⊎ (status ≡ 6)
+  -- one machine is left, that of the document; none where the input is no document or was not read
+  pub machine : has_machine status ≡ true → LeavesMachine (command_of words) input machines
+  pub no_machine : 2 ≤ status → status ≤ 4 → machines ≡ []
+  -- each status but 4, 5 and 6 is that of the answer
+  pub judged : status ≢ 4 → status ≢ 5 → status ≢ 6
+      → IfSome (answer_for (command_of words) input.old) (λ answer. status ≡ answer_status answer)
+  -- and it is where neither stream failed, unless there was no memory
+  pub exact : (Rose input.before input.now → ⊥) → (Rose out.before out.now → ⊥)
+      → IfSome (answer_for (command_of words) input.old) (λ answer. (status ≡ answer_status answer) ⊎ (status ≡ 6))
+  pub statuses : (status ≡ 0) ⊎ ((2 ≤ status) × (status ≤ 7)) ⊎ (status ≡ 9)

@@ -2,18 +2,29 @@
 
 ghost use Rattle.std.specs.Prelude.{◌≡◌};
 
+use crate::commands::mrs::ReadRefused;
 use crate::refusal::Refusal;
-use std::fmt;
+use armcaps_boot::Halt;
 
 /// How a run ends.
 #[derive(Clone, Copy)]
 pub enum Ending {
+    /// The whole output was written.
     Done,
+    /// The words are no form of a command.
     Usage,
+    /// The input is no document.
     Refused(Refusal),
+    /// The input failed.
     ReadFault,
+    /// The output failed.
     WriteFault,
+    /// There was no memory.
     Memory,
+    /// A step stopped the machine.
+    Panicked(Halt),
+    /// A program reads nothing there.
+    NotRead(ReadRefused),
 }
 
 impl Ending {
@@ -30,25 +41,8 @@ impl Ending {
             Ending::ReadFault => 4,
             Ending::WriteFault => 5,
             Ending::Memory => 6,
-        }
-    }
-}
-
-impl fmt::Display for Ending {
-    ghost use Rattle.std.specs.Prelude.{Some};
-    ghost use Rattle.armcaps_top.specs.Ending.{ending_text};
-
-    ghost output = { λ ending. Some (ending_text ending) };
-
-    #[tactic(auto, unfolding(crate::specs::Ending::ending_text))]
-    fn fmt<W: fmt::Write>(&self, f: &mut fmt::Formatter<W>) -> fmt::Result {
-        match self {
-            Ending::Done => Ok(()),
-            Ending::Usage => write!(f, "usage: armcaps report"),
-            Ending::Refused(refusal) => write!(f, "{refusal}"),
-            Ending::ReadFault => write!(f, "read fault"),
-            Ending::WriteFault => write!(f, "write fault"),
-            Ending::Memory => write!(f, "want of memory"),
+            Ending::Panicked(_) => 7,
+            Ending::NotRead(_) => 9,
         }
     }
 }

@@ -1,15 +1,16 @@
-//! The top call of armcaps: a machine text in, a report out.
+//! The top call of armcaps: words and a machine text in, what the command writes of it out.
 #![tactic(auto)]
 
-mod admission;
+mod bringing;
+mod commands;
+mod document;
 mod ending;
 pub mod laws;
 mod program;
+mod reading;
 mod refusal;
-mod report;
 mod telling;
 #[cfg(test)]
 mod tests;
-mod varying;
 
 pub use program::run;

@@ -1,18 +1,30 @@
 //! The line of an ending on the error stream. Nothing is allocated.
 
-ghost use Rattle.std.specs.Prelude.{◌≡◌, ◌+◌, ◌≤◌, ◌++◌, codes};
+ghost use Rattle.std.specs.Prelude.{◌≡◌, ◌+◌, ◌*◌, ◌≤◌, ◌++◌, ◌∷◌, ◌<◌, [], codes, length};
+ghost use Rattle.std.specs.Char.{digit_char};
 ghost use Rattle.std.specs.Fmt.{decimal};
 ghost use Rattle.arrayvec.specs.ArrayString.{array_string_len};
-ghost use Rattle.armcaps_early_text.specs.declared.kind.TextKind.{TextKind};
-ghost use Rattle.armcaps_top.specs.Ending.{ending_text};
-ghost use Rattle.armcaps_top.specs.Refusals.{refused_text};
-ghost use Rattle.armcaps_top.specs.declared.refusal.Refusal.TheVariants as Refusal;
+ghost use Rattle.armcaps_boot.specs.declared.cause.Cause.{Cause};
+ghost use Rattle.armcaps_boot.specs.declared.halt.Halt.{Halt};
+ghost use Rattle.armcaps_caps.specs.Capabilities.{capability_name};
+ghost use Rattle.armcaps_hwcap.specs.Hwcaps.{hwcap_name};
+ghost use Rattle.armcaps_report.specs.Texts.{capability_text, cause_text};
+ghost use Rattle.armcaps_text.specs.declared.kind.TextKind.{TextKind};
+ghost use Rattle.armcaps_top.specs.Document.{refused_text};
+ghost use Rattle.armcaps_top.specs.Ending.{ending_text, halt_text};
+ghost use Rattle.armcaps_top.specs.Mrs.{eight_digits, read_refused_text};
 ghost use Rattle.armcaps_top.specs.Telling.{Tells};
+ghost use Rattle.armcaps_top.specs.declared.commands.mrs.ReadRefused.TheVariants as read_refused;
+ghost use Rattle.armcaps_top.specs.declared.refusal.Refusal.TheVariants as Refusal;
 
+use crate::commands::mrs::ReadRefused;
 use crate::ending::Ending;
-use crate::refusal::{INPUT_LIMIT, Refusal};
-use armcaps_early_text::TextKind;
+use crate::refusal::Refusal;
+use armcaps_boot::{Cause, Halt};
+use armcaps_caps::cap;
+use armcaps_hwcap::hw_row;
 use armcaps_io::{Sink, write_whole};
+use armcaps_text::TextKind;
 use arrayvec::ArrayString;
 use itoa::Buffer;
 
@@ -26,7 +38,7 @@ fn add_number(line: &mut ArrayString<256>, number: u64)
 }
 
 // Adds where a text is refused, and why.
-#[tactic(auto, unfolding(crate::specs::Refusals::refused_text))]
+#[tactic(auto, unfolding(crate::specs::Document::refused_text), using(crate::proofs::ShortNames::kind_word_short))]
 fn add_place(line: &mut ArrayString<256>, number: u32, kind: TextKind)
     requires { array_string_len line.old + 130 ≤ 256 }
     ensures text { line.new.bytes ≡ line.old.bytes ++ refused_text (Refusal.Line number kind) }
@@ -41,19 +53,33 @@ fn add_place(line: &mut ArrayString<256>, number: u32, kind: TextKind)
 }
 
 // Adds how many bytes an input may have.
-#[tactic(auto, unfolding(crate::specs::Refusals::refused_text))]
-fn add_limit(line: &mut ArrayString<256>)
+#[tactic(auto, unfolding(crate::specs::Document::refused_text))]
+fn add_limit(line: &mut ArrayString<256>, limit: usize)
     requires { array_string_len line.old + 130 ≤ 256 }
-    ensures text { line.new.bytes ≡ line.old.bytes ++ refused_text Refusal.TooLong }
+    ensures text { line.new.bytes ≡ line.old.bytes ++ refused_text (Refusal.TooLong limit) }
     ensures room { array_string_len line.new ≤ array_string_len line.old + 130 }
 {
     line.push_str("input longer than ");
-    add_number(line, INPUT_LIMIT as u64);
+    add_number(line, limit as u64);
     line.push_str(" bytes");
 }
 
-// Adds how many bytes follow a text.
-#[tactic(auto, unfolding(crate::specs::Refusals::refused_text))]
+// Adds how many bytes of an image are there.
+#[tactic(auto, unfolding(crate::specs::Document::refused_text))]
+fn add_shortage(line: &mut ArrayString<256>, got: usize, of: u32)
+    requires { array_string_len line.old + 130 ≤ 256 }
+    ensures text { line.new.bytes ≡ line.old.bytes ++ refused_text (Refusal.ImageShort got of) }
+    ensures room { array_string_len line.new ≤ array_string_len line.old + 130 }
+{
+    line.push_str("image short: ");
+    add_number(line, got as u64);
+    line.push_str(" of ");
+    add_number(line, u64::from(of));
+    line.push_str(" bytes");
+}
+
+// Adds how many bytes follow a document.
+#[tactic(auto, unfolding(crate::specs::Document::refused_text))]
 fn add_trailing(line: &mut ArrayString<256>, extra: usize)
     requires { array_string_len line.old + 130 ≤ 256 }
     ensures text { line.new.bytes ≡ line.old.bytes ++ refused_text (Refusal.Trailing extra) }
@@ -71,9 +97,177 @@ fn add_refusal(line: &mut ArrayString<256>, refusal: Refusal)
 {
     match refusal {
         Refusal::Line { line: number, kind } => add_place(line, number, kind),
-        Refusal::TooLong => add_limit(line),
+        Refusal::TooLong { limit } => add_limit(line, limit),
+        Refusal::ImageShort { got, of } => add_shortage(line, got, of),
         Refusal::Trailing { extra } => add_trailing(line, extra),
     }
+}
+
+// The name of a capability.
+#[tactic(auto, unfolding(armcaps_caps::specs::Capabilities::capability_name), using(crate::proofs::ShortNames::capability_name_short))]
+fn name_of_capability(number: u16) -> &'static str
+    ensures name { result.now ≡ capability_name number }
+    ensures short { length result.now ≤ 30 }
+{
+    match cap(number) {
+        Some(row) => row.name,
+        None => "",
+    }
+}
+
+// The name of a hwcap.
+#[tactic(auto, using(crate::proofs::ShortNames::hwcap_name_short))]
+fn name_of_hwcap(index: u16) -> &'static str
+    ensures name { result.now ≡ hwcap_name index }
+    ensures short { length result.now ≤ 30 }
+{
+    match hw_row(usize::from(index)) {
+        Some(row) => row.name,
+        None => "",
+    }
+}
+
+// Adds a capability's number and name.
+fn add_capability(line: &mut ArrayString<256>, number: u16)
+    requires { array_string_len line.old + 75 ≤ 256 }
+    ensures text { line.new.bytes ≡ line.old.bytes ++ capability_text number }
+    ensures room { array_string_len line.new ≤ array_string_len line.old + 75 }
+{
+    line.push_str("cap ");
+    add_number(line, u64::from(number));
+    line.push_str(" ");
+    line.push_str(name_of_capability(number));
+}
+
+// Adds a hwcap's name.
+fn add_hwcap(line: &mut ArrayString<256>, index: u16)
+    requires { array_string_len line.old + 75 ≤ 256 }
+    ensures text { line.new.bytes ≡ line.old.bytes ++ (codes "hwcap " ++ hwcap_name index) }
+    ensures room { array_string_len line.new ≤ array_string_len line.old + 75 }
+{
+    line.push_str("hwcap ");
+    line.push_str(name_of_hwcap(index));
+}
+
+// Adds a number of bits.
+fn add_vector(line: &mut ArrayString<256>, length: u8)
+    requires { array_string_len line.old + 75 ≤ 256 }
+    ensures text { line.new.bytes ≡ line.old.bytes ++ (codes "vl " ++ decimal (128 * length)) }
+    ensures room { array_string_len line.new ≤ array_string_len line.old + 75 }
+{
+    line.push_str("vl ");
+    add_number(line, 128 * u64::from(length));
+}
+
+// Adds a cause.
+#[tactic(auto, unfolding(armcaps_report::specs::Texts::cause_text))]
+fn add_cause(line: &mut ArrayString<256>, cause: Cause)
+    requires { array_string_len line.old + 75 ≤ 256 }
+    ensures text { line.new.bytes ≡ line.old.bytes ++ cause_text cause }
+    ensures room { array_string_len line.new ≤ array_string_len line.old + 75 }
+{
+    match cause {
+        Cause::Asid => line.push_str("asid"),
+        Cause::Cap(number) => add_capability(line, number),
+        Cause::Hwcap(index) => add_hwcap(line, index),
+        Cause::Vector(length) => add_vector(line, length),
+    }
+}
+
+// Adds what stopped a machine.
+#[tactic(auto, unfolding(crate::specs::Ending::halt_text))]
+fn add_halt(line: &mut ArrayString<256>, halt: Halt)
+    requires { array_string_len line.old + 123 ≤ 256 }
+    ensures text { line.new.bytes ≡ line.old.bytes ++ halt_text halt }
+    ensures room { array_string_len line.new ≤ array_string_len line.old + 123 }
+{
+    line.push_str("core ");
+    add_number(line, u64::from(halt.core));
+    line.push_str(": ");
+    add_cause(line, halt.cause);
+}
+
+// The hexadecimal digit of a number below 16.
+fn digit(number: u32) -> &'static str
+    requires { number < 16 }
+    ensures { result.now ≡ digit_char number ∷ [] }
+{
+    const DIGITS: [&str; 16] = [
+        "0", "1", "2", "3", "4", "5", "6", "7", "8", "9", "a", "b", "c", "d", "e", "f",
+    ];
+    DIGITS[number as usize]
+}
+
+// Adds the eight hexadecimal digits of a word.
+fn add_word(line: &mut ArrayString<256>, word: u32)
+    requires { array_string_len line.old + 8 ≤ 256 }
+    ensures text { line.new.bytes ≡ line.old.bytes ++ eight_digits word }
+    ensures room { array_string_len line.new ≡ array_string_len line.old + 8 }
+{
+    line.push_str(digit(word >> 28 & 15));
+    line.push_str(digit(word >> 24 & 15));
+    line.push_str(digit(word >> 20 & 15));
+    line.push_str(digit(word >> 16 & 15));
+    line.push_str(digit(word >> 12 & 15));
+    line.push_str(digit(word >> 8 & 15));
+    line.push_str(digit(word >> 4 & 15));
+    line.push_str(digit(word & 15));
+}
+
+// Adds which core is not admitted.
+#[tactic(auto, unfolding(crate::specs::Mrs::read_refused_text))]
+fn add_absence(line: &mut ArrayString<256>, core: u32)
+    requires { array_string_len line.old + 65 ≤ 256 }
+    ensures text { line.new.bytes ≡ line.old.bytes ++ read_refused_text (read_refused.NotAdmitted core) }
+    ensures room { array_string_len line.new ≤ array_string_len line.old + 65 }
+{
+    line.push_str("core ");
+    add_number(line, u64::from(core));
+    line.push_str(" not admitted");
+}
+
+// Adds which word reads nothing.
+#[tactic(auto, unfolding(crate::specs::Mrs::read_refused_text))]
+fn add_undefined(line: &mut ArrayString<256>, word: u32)
+    requires { array_string_len line.old + 65 ≤ 256 }
+    ensures text { line.new.bytes ≡ line.old.bytes ++ read_refused_text (read_refused.Undefined word) }
+    ensures room { array_string_len line.new ≤ array_string_len line.old + 65 }
+{
+    line.push_str("word 0x");
+    add_word(line, word);
+    line.push_str(" undefined");
+}
+
+// Adds why a program reads nothing.
+fn add_read_refused(line: &mut ArrayString<256>, unread: ReadRefused)
+    requires { array_string_len line.old + 65 ≤ 256 }
+    ensures text { line.new.bytes ≡ line.old.bytes ++ read_refused_text unread }
+    ensures room { array_string_len line.new ≤ array_string_len line.old + 65 }
+{
+    match unread {
+        ReadRefused::NotAdmitted { core } => add_absence(line, core),
+        ReadRefused::Undefined { word } => add_undefined(line, word),
+    }
+}
+
+// Adds what stopped a machine, as a panic.
+fn add_panic(line: &mut ArrayString<256>, halt: Halt)
+    requires { array_string_len line.old + 130 ≤ 256 }
+    ensures text { line.new.bytes ≡ line.old.bytes ++ (codes "panic: " ++ halt_text halt) }
+    ensures room { array_string_len line.new ≤ array_string_len line.old + 130 }
+{
+    line.push_str("panic: ");
+    add_halt(line, halt);
+}
+
+// Adds why `mrs` reads nothing.
+fn add_not_read(line: &mut ArrayString<256>, unread: ReadRefused)
+    requires { array_string_len line.old + 130 ≤ 256 }
+    ensures text { line.new.bytes ≡ line.old.bytes ++ (codes "mrs: " ++ read_refused_text unread) }
+    ensures room { array_string_len line.new ≤ array_string_len line.old + 130 }
+{
+    line.push_str("mrs: ");
+    add_read_refused(line, unread);
 }
 
 // Adds an ending's text.
@@ -85,11 +279,13 @@ fn add_text(line: &mut ArrayString<256>, ending: Ending)
 {
     match ending {
         Ending::Done => {}
-        Ending::Usage => line.push_str("usage: armcaps report"),
+        Ending::Usage => line.push_str("usage: armcaps report | mrs CORE WORD | trace"),
         Ending::Refused(refusal) => add_refusal(line, refusal),
         Ending::ReadFault => line.push_str("read fault"),
         Ending::WriteFault => line.push_str("write fault"),
         Ending::Memory => line.push_str("want of memory"),
+        Ending::Panicked(halt) => add_panic(line, halt),
+        Ending::NotRead(unread) => add_not_read(line, unread),
     }
 }
 

@@ -1,7 +1,7 @@
 use Rattle.std.proofs.Common.{ap, ◌∙◌, ◌++◌, List, ℕ, rules}
 use Rattle.std.specs.Fmt.{decimal}
-use Rattle.armcaps_early_text.specs.Refusal.{refusal_text}
-use Rattle.armcaps_top.specs.Refusals.{refused_text}
+use Rattle.armcaps_text.specs.Refusal.{refusal_text}
+use Rattle.armcaps_top.specs.Document.{refused_text}
 use Rattle.armcaps_top.proofs.Texts.{six_pieces}
 use Rattle.armcaps_top.proofs.telling.add_place.Goals as goal
 
@@ -13,4 +13,4 @@ returns-clause-text c =
     c.push_str-2.ensures.bytes
     (c.add_number-2.ensures.text ∙ ap (λ (n : ℕ). c.push_str-2.new.self.bytes ++ decimal n) (search rules))
     c.push_str-3.ensures.bytes
-    (c.push_str-4.ensures.bytes ∙ ap (λ (w : List ℕ). c.push_str-3.new.self.bytes ++ w) c.word.ensures.word)
+    (c.push_str-4.ensures.bytes ∙ ap (λ (w : List ℕ). c.push_str-3.new.self.bytes ++ w) c.word.ensures)

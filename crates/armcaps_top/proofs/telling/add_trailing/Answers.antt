@@ -1,4 +1,4 @@
-use Rattle.armcaps_top.specs.Refusals.{refused_text}
+use Rattle.armcaps_top.specs.Document.{refused_text}
 use Rattle.armcaps_top.proofs.Texts.{two_pieces}
 use Rattle.armcaps_top.proofs.telling.add_trailing.Goals as goal
 

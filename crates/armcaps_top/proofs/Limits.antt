@@ -1,0 +1,62 @@
+-- The limits of the formats, and inputs that are longer.
+use Rattle.std.proofs.Common.{◌≡◌, ℕ, ◌+◌, ◌<◌, ◌≤◌, ◌⊎◌, inl, inr, Bool, true, false, cond, nat_lt, List, [], ◌++◌, length, take, Option, None, Some, refl, sym, ap, subst, ◌∙◌, arith, length-append, lit≤}
+use Rattle.std.specs.Prelude.{IfSome, Err, option_and_then, slice_get, unwrap_or}
+use Rattle.std.proofs.lemmas.Bool.Decides.{nat_tests}
+use Rattle.std.proofs.lemmas.List.{take-append-le}
+use Rattle.armcaps_io.specs.Streams.{Moves}
+use Rattle.armcaps_text.specs.Document.{outcome}
+use Rattle.armcaps_text.specs.Formats.{format_named, format_of, format_one, format_two}
+use Rattle.armcaps_text.specs.Lines.{ended_lines, first_mebibyte, lines_of}
+use Rattle.armcaps_text.specs.declared.format.Format.{Format}
+use Rattle.armcaps_top.specs.Document.{document, document_after}
+use Rattle.armcaps_top.specs.declared.refusal.Refusal.TheVariants.{TooLong}
+
+by_tests : (first second : Bool) → (unwrap_or (cond first (Some format_one) (cond second (Some format_two) None)) format_one ≡ format_one)
+    ⊎ (unwrap_or (cond first (Some format_one) (cond second (Some format_two) None)) format_one ≡ format_two)
+by_tests true second = inl refl
+by_tests false true = inr refl
+by_tests false false = inl refl
+
+by_line : (line : Option (List ℕ)) → (unwrap_or (option_and_then format_named line) format_one ≡ format_one)
+    ⊎ (unwrap_or (option_and_then format_named line) format_one ≡ format_two)
+unfolding format_named
+by_line None = inl refl
+by_line (Some line) = by_tests _ _
+
+-- the limits of an input's format
+pub record HasLimits (limit : ℕ) : Type 0 where
+  pub least : 135266304 ≤ limit
+  pub most : limit ≤ 537919488
+
+limits_of : (format : Format) → (format ≡ format_one) ⊎ (format ≡ format_two) → HasLimits format.input
+limits_of format (inl one) = rw one (record { least = lit≤ tt; most = lit≤ tt })
+limits_of format (inr two) = rw two (record { least = lit≤ tt; most = lit≤ tt })
+
+pub limits : (input : List ℕ) → HasLimits (format_of input).input
+limits input = limits_of (format_of input) (by_line (slice_get (lines_of input) 0))
+
+-- what follows the first 1,048,576 bytes of an input does not change its format
+pub same_format : (part rest : List ℕ) → 1048576 ≤ length part → format_of (part ++ rest) ≡ format_of part
+unfolding first_mebibyte
+same_format part rest long =
+    ap (λ (front : List ℕ). unwrap_or (option_and_then format_named (slice_get (ended_lines front) 0)) format_one) (take-append-le 1048576 part rest long)
+
+longer : (input : List ℕ) (limit : ℕ) → (format_of input).input ≡ limit → limit < length input → document input ≡ Err (TooLong limit)
+unfolding document
+longer input limit is long =
+    let test : nat_lt (format_of input).input (length input) ≡ true = grind (arith, nat_tests) in
+    rw test (ap (λ (n : ℕ). Err (TooLong n)) is)
+
+-- an input of which more bytes came than its format allows
+pub too_long : (left after : Option (List ℕ)) (bytes : List ℕ) (limit : ℕ) → Moves left after [] bytes → limit < length bytes → 1048576 ≤ length bytes
+    → (format_of bytes).input ≡ limit → IfSome left (λ input. document input ≡ Err (TooLong limit))
+too_long None after bytes limit moved long most is = tt
+too_long (Some input) None bytes limit moved long most is = absurd moved.given
+too_long (Some input) (Some rest) bytes limit moved long most is =
+    let given : input ≡ bytes ++ rest = moved.given ∙ ap (λ (part : List ℕ). part ++ rest) (sym moved.grown) in
+    let format : (format_of input).input ≡ limit = ap (λ (i : List ℕ). (format_of i).input) given ∙ ap (λ (f : Format). f.input) (same_format bytes rest most) ∙ is in
+    longer input limit format (rw given (omega (arith, length-append bytes rest)))
+
+-- bytes that grow past the first 1,048,576 keep their format
+pub grown_format : (left after : Option (List ℕ)) (before bytes : List ℕ) → Moves left after before bytes → 1048576 ≤ length before → format_of bytes ≡ format_of before
+grown_format left after before bytes moved most = ap (λ (i : List ℕ). format_of i) moved.grown ∙ same_format before moved.part most

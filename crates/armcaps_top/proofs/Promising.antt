@@ -1,0 +1,239 @@
+-- From what a command does to what a run promises.
+use Rattle.std.proofs.Common.{◌≡◌, ◌≢◌, ◌↔◌, ◌⊎◌, inl, inr, ℕ, ◌≤◌, true, List, [], Option, Some, None, refl, sym, ap, subst, arith, lit≤}
+use Rattle.std.specs.Prelude.{Result, Ok, Err, IfSome, IsSome}
+use Rattle.std.specs.Option.{option_map}
+use Rattle.std.specs.Result.{IsOkAnd, IsErr}
+use Rattle.armcaps_boot.specs.declared.halt.Halt.{Halt}
+use Rattle.armcaps_boot.specs.World.{World}
+use Rattle.armcaps_io.specs.Causes.{Rose}
+use Rattle.armcaps_io.specs.Streams.{Appends, Keeps}
+use Rattle.armcaps_top.specs.Commands.{command_of}
+use Rattle.armcaps_top.specs.Document.{Document}
+use Rattle.armcaps_top.specs.Ending.{status_of}
+use Rattle.armcaps_top.specs.Inside.{Performs}
+use Rattle.armcaps_top.specs.Run.{Change, IsReadRefused, Promises, Reason, answer_for, answer_status, document_for, halt_in, written_of}
+use Rattle.armcaps_top.specs.Telling.{Tells}
+use Rattle.armcaps_top.specs.declared.commands.Command.{Command}
+use Rattle.armcaps_top.specs.declared.commands.mrs.ReadRefused.{ReadRefused}
+use Rattle.armcaps_top.specs.declared.ending.Ending.{Ending}
+use Rattle.armcaps_top.specs.declared.ending.Ending.TheVariants.{Done, Usage, Refused, ReadFault, WriteFault, Memory, Panicked, NotRead}
+use Rattle.armcaps_top.specs.declared.refusal.Refusal.{Refusal}
+
+-- the endings of each status
+done_of : (ending : Ending) → status_of ending ≡ 0 → ending ≡ Done
+done_of Done is = refl
+done_of Usage is = absurd (omega (arith, is))
+done_of (Refused refusal) is = absurd (omega (arith, is))
+done_of ReadFault is = absurd (omega (arith, is))
+done_of WriteFault is = absurd (omega (arith, is))
+done_of Memory is = absurd (omega (arith, is))
+done_of (Panicked halt) is = absurd (omega (arith, is))
+done_of (NotRead refused) is = absurd (omega (arith, is))
+
+usage_of : (ending : Ending) → status_of ending ≡ 2 → ending ≡ Usage
+usage_of Done is = absurd (omega (arith, is))
+usage_of Usage is = refl
+usage_of (Refused refusal) is = absurd (omega (arith, is))
+usage_of ReadFault is = absurd (omega (arith, is))
+usage_of WriteFault is = absurd (omega (arith, is))
+usage_of Memory is = absurd (omega (arith, is))
+usage_of (Panicked halt) is = absurd (omega (arith, is))
+usage_of (NotRead refused) is = absurd (omega (arith, is))
+
+refused_of : (ending : Ending) → status_of ending ≡ 3 → (refusal : Refusal) × (ending ≡ Refused refusal)
+refused_of Done is = absurd (omega (arith, is))
+refused_of Usage is = absurd (omega (arith, is))
+refused_of (Refused refusal) is = (refusal, refl)
+refused_of ReadFault is = absurd (omega (arith, is))
+refused_of WriteFault is = absurd (omega (arith, is))
+refused_of Memory is = absurd (omega (arith, is))
+refused_of (Panicked halt) is = absurd (omega (arith, is))
+refused_of (NotRead refused) is = absurd (omega (arith, is))
+
+read_fault_of : (ending : Ending) → status_of ending ≡ 4 → ending ≡ ReadFault
+read_fault_of Done is = absurd (omega (arith, is))
+read_fault_of Usage is = absurd (omega (arith, is))
+read_fault_of (Refused refusal) is = absurd (omega (arith, is))
+read_fault_of ReadFault is = refl
+read_fault_of WriteFault is = absurd (omega (arith, is))
+read_fault_of Memory is = absurd (omega (arith, is))
+read_fault_of (Panicked halt) is = absurd (omega (arith, is))
+read_fault_of (NotRead refused) is = absurd (omega (arith, is))
+
+write_fault_of : (ending : Ending) → status_of ending ≡ 5 → ending ≡ WriteFault
+write_fault_of Done is = absurd (omega (arith, is))
+write_fault_of Usage is = absurd (omega (arith, is))
+write_fault_of (Refused refusal) is = absurd (omega (arith, is))
+write_fault_of ReadFault is = absurd (omega (arith, is))
+write_fault_of WriteFault is = refl
+write_fault_of Memory is = absurd (omega (arith, is))
+write_fault_of (Panicked halt) is = absurd (omega (arith, is))
+write_fault_of (NotRead refused) is = absurd (omega (arith, is))
+
+panicked_of : (ending : Ending) → status_of ending ≡ 7 → (halt : Halt) × (ending ≡ Panicked halt)
+panicked_of Done is = absurd (omega (arith, is))
+panicked_of Usage is = absurd (omega (arith, is))
+panicked_of (Refused refusal) is = absurd (omega (arith, is))
+panicked_of ReadFault is = absurd (omega (arith, is))
+panicked_of WriteFault is = absurd (omega (arith, is))
+panicked_of Memory is = absurd (omega (arith, is))
+panicked_of (Panicked halt) is = (halt, refl)
+panicked_of (NotRead refused) is = absurd (omega (arith, is))
+
+not_read_of : (ending : Ending) → status_of ending ≡ 9 → (refused : ReadRefused) × (ending ≡ NotRead refused)
+not_read_of Done is = absurd (omega (arith, is))
+not_read_of Usage is = absurd (omega (arith, is))
+not_read_of (Refused refusal) is = absurd (omega (arith, is))
+not_read_of ReadFault is = absurd (omega (arith, is))
+not_read_of WriteFault is = absurd (omega (arith, is))
+not_read_of Memory is = absurd (omega (arith, is))
+not_read_of (Panicked halt) is = absurd (omega (arith, is))
+not_read_of (NotRead refused) is = (refused, refl)
+
+statuses : (ending : Ending) → (status_of ending ≡ 0) ⊎ ((2 ≤ status_of ending) × (status_of ending ≤ 7)) ⊎ (status_of ending ≡ 9)
+statuses Done = inl refl
+statuses Usage = inr (inl (lit≤ tt, lit≤ tt))
+statuses (Refused refusal) = inr (inl (lit≤ tt, lit≤ tt))
+statuses ReadFault = inr (inl (lit≤ tt, lit≤ tt))
+statuses WriteFault = inr (inl (lit≤ tt, lit≤ tt))
+statuses Memory = inr (inl (lit≤ tt, lit≤ tt))
+statuses (Panicked halt) = inr (inl (lit≤ tt, lit≤ tt))
+statuses (NotRead refused) = inr (inr refl)
+
+-- facts that follow where the bytes are told
+if_some : {X : Type 0} (found : Option X) (P Q : X → Type 0) → ((x : X) → P x → Q x) → IfSome found P → IfSome found Q
+if_some None P Q law holds = tt
+if_some (Some x) P Q law holds = law x holds
+
+if_ok_and : {X E : Type 0} (found : Result X E) (P Q : X → Type 0) → ((x : X) → P x → Q x) → IsOkAnd found P → IsOkAnd found Q
+if_ok_and (Ok x) P Q law holds = law x holds
+if_ok_and (Err e) P Q law holds = absurd holds
+
+written : (answer : Result (List ℕ) Ending) (P : List ℕ → Type 0) → IsOkAnd answer P → 0 ≡ answer_status answer
+written (Ok output) P holds = refl
+written (Err ending) P holds = absurd holds
+
+refused_status : (command : Command) (found : Option (Result Document Refusal)) (refusal : Refusal) → IfSome found (λ f. f ≡ Err refusal)
+    → IfSome (option_map (written_of command) found) (λ answer. 3 ≡ answer_status answer)
+refused_status command None refusal is = tt
+refused_status command (Some found) refusal is = rw is refl
+
+stopped_status : (command : Command) (found : Result Document Refusal) (halt : Halt) → IsOkAnd found (λ d. halt_in d ≡ Some halt)
+    → 7 ≡ answer_status (written_of command found)
+stopped_status command (Ok document) halt is = rw is refl
+stopped_status command (Err refusal) halt is = absurd is
+
+all_stopped_status : (command : Command) (found : Option (Result Document Refusal)) (halt : Halt) → IfSome found (λ f. IsOkAnd f (λ d. halt_in d ≡ Some halt))
+    → IfSome (option_map (written_of command) found) (λ answer. 7 ≡ answer_status answer)
+all_stopped_status command None halt is = tt
+all_stopped_status command (Some found) halt is = stopped_status command found halt is
+
+-- the status of an ending that is the answer
+judged : (command : Command) (input out : Change) (ending : Ending) → ending ≢ Usage → Reason (Some command) input out ending
+    → status_of ending ≢ 4 → status_of ending ≢ 5 → status_of ending ≢ 6
+    → IfSome (answer_for (Some command) input.old) (λ answer. status_of ending ≡ answer_status answer)
+judged command input out Done form reason read write memory =
+    if_some (answer_for (Some command) input.old) (λ answer. IsOkAnd answer (Appends out.old out.new)) (λ answer. 0 ≡ answer_status answer)
+    (λ answer. written answer (Appends out.old out.new)) reason.0
+judged command input out Usage form reason read write memory = absurd (form refl)
+judged command input out (Refused refusal) form reason read write memory = refused_status command (document_for (Some command) input.old) refusal reason
+judged command input out ReadFault form reason read write memory = absurd (read refl)
+judged command input out WriteFault form reason read write memory = absurd (write refl)
+judged command input out Memory form reason read write memory = absurd (memory refl)
+judged command input out (Panicked halt) form reason read write memory = all_stopped_status command (document_for (Some command) input.old) halt reason
+judged command input out (NotRead refused) form reason read write memory =
+    if_some (answer_for (Some command) input.old) (λ answer. answer ≡ Err (NotRead refused)) (λ answer. 9 ≡ answer_status answer)
+    (λ answer is. rw is refl) reason
+
+either : (answers : Option (Result (List ℕ) Ending)) (status : ℕ) → IfSome answers (λ answer. status ≡ answer_status answer)
+    → IfSome answers (λ answer. (status ≡ answer_status answer) ⊎ (status ≡ 6))
+either None status is = tt
+either (Some answer) status is = inl is
+
+always : {X : Type 0} (found : Option X) → IfSome found (λ x. Unit {0})
+always None = tt
+always (Some x) = tt
+
+-- where neither stream failed
+exact : (command : Command) (input out : Change) (ending : Ending) → ending ≢ Usage → Reason (Some command) input out ending
+    → (Rose input.before input.now → ⊥) → (Rose out.before out.now → ⊥)
+    → IfSome (answer_for (Some command) input.old) (λ answer. (status_of ending ≡ answer_status answer) ⊎ (status_of ending ≡ 6))
+exact command input out ReadFault form reason read write = absurd (read reason)
+exact command input out WriteFault form reason read write = absurd (write reason.0)
+exact command input out Memory form reason read write =
+    if_some (answer_for (Some command) input.old) (λ answer. Unit {0}) (λ answer. (6 ≡ answer_status answer) ⊎ (6 ≡ 6)) (λ answer is. inr refl)
+    (always (answer_for (Some command) input.old))
+exact command input out Done form reason read write =
+    either (answer_for (Some command) input.old) 0 (judged command input out Done form reason (λ e. omega (arith, e)) (λ e. omega (arith, e)) (λ e. omega (arith, e)))
+exact command input out Usage form reason read write = absurd (form refl)
+exact command input out (Refused refusal) form reason read write =
+    either (answer_for (Some command) input.old) 3 (judged command input out (Refused refusal) form reason (λ e. omega (arith, e)) (λ e. omega (arith, e)) (λ e. omega (arith, e)))
+exact command input out (Panicked halt) form reason read write =
+    either (answer_for (Some command) input.old) 7 (judged command input out (Panicked halt) form reason (λ e. omega (arith, e)) (λ e. omega (arith, e)) (λ e. omega (arith, e)))
+exact command input out (NotRead refused) form reason read write =
+    either (answer_for (Some command) input.old) 9 (judged command input out (NotRead refused) form reason (λ e. omega (arith, e)) (λ e. omega (arith, e)) (λ e. omega (arith, e)))
+
+-- a run of a command
+pub promised : (words : List (List ℕ)) (command : Command) (input out err : Change) (machines : List World) (ending : Ending)
+    → command_of words ≡ Some command → Performs command input out machines ending → Tells ending err.old err.new err.before err.now
+    → Promises words input out err machines (status_of ending)
+promised words command input out err machines ending is does told =
+    let at : (e : Ending) → ending ≡ e → Reason (Some command) input out e = λ e same. subst (λ (x : Ending). Reason (Some command) input out x) same does.reason in record {
+      ending = ending;
+      status_is = refl;
+      reason = rw is does.reason;
+      told = told;
+      usage = (λ two. absurd (does.form (usage_of ending two)), λ none. absurd (let no : ⊥ = cc in no));
+      unread = λ two. absurd (does.form (usage_of ending two));
+      done = λ zero. rw is (at Done (done_of ending zero));
+      safe = λ zero. rw is (does.safe (done_of ending zero));
+      refused = λ three. rw is
+        (let refusal = refused_of ending three in
+          if_some (document_for (Some command) input.old) (λ found. found ≡ Err refusal.0) IsErr (λ found same. rw same refl) (at (Refused refusal.0) refusal.1));
+      read_fault = λ four. at ReadFault (read_fault_of ending four);
+      write_fault = λ five. rw is (at WriteFault (write_fault_of ending five));
+      stopped = λ seven. rw is
+        (let halt = panicked_of ending seven in
+          if_some (document_for (Some command) input.old) (λ found. IsOkAnd found (λ d. halt_in d ≡ Some halt.0)) (λ found. IsOkAnd found (λ d. IsSome (halt_in d)))
+          (λ found. if_ok_and found (λ d. halt_in d ≡ Some halt.0) (λ d. IsSome (halt_in d)) (λ d same. rw same refl)) (at (Panicked halt.0) halt.1));
+      not_read = λ nine. rw is
+        (let refused = not_read_of ending nine in
+          if_some (answer_for (Some command) input.old) (λ answer. answer ≡ Err (NotRead refused.0)) IsReadRefused (λ answer same. (refused.0, same)) (at (NotRead refused.0) refused.1));
+      silent = λ zero five. does.silent (λ same. zero (ap status_of same)) (λ same. five (ap status_of same));
+      machine = λ has. rw is (does.machine has);
+      no_machine = λ two four. does.no_machine four (λ same. omega (arith, two, ap status_of same));
+      judged = λ read write memory. rw is (judged command input out ending does.form does.reason read write memory);
+      exact = λ read write. rw is (exact command input out ending does.form does.reason read write);
+      statuses = statuses ending;
+    }
+
+keeps : (bytes : Option (List ℕ)) → Keeps bytes bytes
+keeps None = tt
+keeps (Some bytes) = refl
+
+-- a run of words that are no form
+pub promised_nothing : (words : List (List ℕ)) (input out err : Change) (machines : List World)
+    → command_of words ≡ None → input.new ≡ input.old → out.new ≡ out.old → machines ≡ [] → Tells Usage err.old err.new err.before err.now
+    → Promises words input out err machines 2
+promised_nothing words input out err machines is same_input same_out none told =
+    let kept : Keeps input.old input.new = subst (λ (b : Option (List ℕ)). Keeps input.old b) (sym same_input) (keeps input.old) in record {
+      ending = Usage;
+      status_is = refl;
+      reason = (is, kept);
+      told = told;
+      usage = (λ two. is, λ none. refl);
+      unread = λ two. kept;
+      done = λ zero. absurd (omega (arith, zero));
+      safe = λ zero. absurd (omega (arith, zero));
+      refused = λ three. absurd (omega (arith, three));
+      read_fault = λ four. absurd (omega (arith, four));
+      write_fault = λ five. absurd (omega (arith, five));
+      stopped = λ seven. absurd (omega (arith, seven));
+      not_read = λ nine. absurd (omega (arith, nine));
+      silent = λ zero five. subst (λ (b : Option (List ℕ)). Keeps out.old b) (sym same_out) (keeps out.old);
+      machine = λ has. absurd (let no : ⊥ = cc in no);
+      no_machine = λ two four. none;
+      judged = λ read write memory. rw is refl;
+      exact = λ read write. rw is (inl refl);
+      statuses = inr (inl (lit≤ tt, lit≤ tt));
+    }

@@ -1,9 +1,0 @@
-use Rattle.std.proofs.Common.{◌≡◌, ◌++◌, take, string_bytes}
-use Rattle.std.specs.List.{flat_map}
-use Rattle.armcaps_enc.specs.Registers.{tracked}
-use Rattle.armcaps_top.specs.Report.{note_lines}
-use Rattle.armcaps_top.proofs.report.push_all_notes.Given as goal
-
-abbrev pub invariant-loop-register : goal.invariant-loop-register
-invariant-loop-register l =
-    string_bytes l.text ≡ string_bytes l.initial.text ++ flat_map (note_lines l.overrides l.boot) (take l.register-index tracked)

@@ -1,0 +1,37 @@
+//! A machine is brought up.
+
+ghost use Rattle.std.specs.Prelude.{◌≡◌, ◌<◌, ◌+◌, length, reverse, slice_index_or};
+ghost use Rattle.armcaps_boot.specs.After.{IsAfter, reply_of};
+ghost use Rattle.armcaps_boot.specs.Admission.{halt_of, steps_made};
+ghost use Rattle.armcaps_boot.specs.declared.event.Event.TheVariants as Event;
+ghost use Rattle.armcaps_top.specs.Bringing.{IsAt, board_in, steps_before};
+
+use armcaps_boot::laws::steps_are_answered;
+use armcaps_boot::{Boot, Event, Halt, Reply};
+
+/// Makes the step at this index. It is never refused.
+pub fn make_step(boot: &mut Boot, events: &[Event], index: usize) -> Reply
+    requires inside { index < length events.now }
+    requires at { IsAt index events.now (board_in boot.old) boot.old }
+    ensures reply { result ≡ reply_of (board_in boot.old) (steps_before index events.now) (slice_index_or events.now index (Event.Check 0)) }
+    ensures after { IsAfter (board_in boot.old) (steps_before (index + 1) events.now) boot.new }
+{
+    boot.facts_hold();
+    steps_are_answered();
+    boot.step(events[index]).unwrap()
+}
+
+/// Makes steps in their order, up to one that stops the machine, and says what stopped it.
+pub fn bring_up(boot: &mut Boot, events: &[Event]) -> Option<Halt>
+    requires { IsAt 0 events.now (board_in boot.old) boot.old }
+    ensures halt { result ≡ halt_of (board_in boot.old) (reverse events.now) }
+    ensures machine { IsAfter (board_in boot.old) (steps_made (board_in boot.old) (reverse events.now)) boot.new }
+{
+    for index in 0..events.len() {
+        make_step(boot, events, index);
+        if let Some(halt) = boot.halted() {
+            return Some(halt);
+        }
+    }
+    None
+}

@@ -1,0 +1,110 @@
+//! The commands, and the words that name them.
+
+ghost use Rattle.std.specs.Prelude.{◌≡◌, ◌≢◌, Ok, Err, IfOk, IfErr, true, length, map, reverse, string_bytes};
+ghost use Rattle.armcaps_boot.specs.After.{IsAfter};
+ghost use Rattle.armcaps_boot.specs.Admission.{steps_made};
+ghost use Rattle.armcaps_boot.specs.Order.{is_complete};
+ghost use Rattle.armcaps_top.specs.Bringing.{IsAt, board_in};
+ghost use Rattle.armcaps_top.specs.Inside.{IsInstead};
+ghost use Rattle.armcaps_top.specs.Output.{output_after};
+ghost use Rattle.armcaps_top.specs.Commands.{command_named, command_of, command_of_two, core_number, instruction_word};
+
+pub mod mrs;
+pub mod report;
+pub mod trace;
+
+use crate::ending::Ending;
+use armcaps_boot::{Boot, Event};
+use armcaps_lex::{decimal, hexadecimal};
+use std::alloc::Global;
+
+/// What the program is asked for.
+#[derive(Clone, Copy)]
+pub enum Command {
+    /// The report of the machine.
+    Report,
+    /// What a program on this core reads by this instruction.
+    Mrs { core: u32, word: u32 },
+    /// What came of each step.
+    Trace,
+}
+
+impl Command {
+    /// The command that words are a form of.
+    #[tactic(auto, unfolding(crate::specs::Commands::command_of))]
+    pub fn of(words: &[String]) -> Option<Command>
+        ensures { result ≡ command_of (map string_bytes words.now) }
+    {
+        match words {
+            [name] => command_named(name.as_str()),
+            [name, first, second] => command_of_two(name.as_str(), first.as_str(), second.as_str()),
+            _ => None,
+        }
+    }
+
+    /// Makes the steps in their order up to one that stops the machine, and makes what the command writes, or says how the
+    /// run ends.
+    pub fn output(self, alloc: Global, boot: &mut Boot, events: &[Event]) -> Result<String, Ending>
+        requires begins { IsAt 0 events.now (board_in boot.old) boot.old }
+        requires complete { is_complete (length boot.old.cores) (reverse events.now) ≡ true }
+        ensures output { IfOk result (λ text. output_after self (board_in boot.old) (reverse events.now) ≡ Ok (string_bytes text)) }
+        ensures instead { IfErr result (IsInstead (output_after self (board_in boot.old) (reverse events.now))) }
+        ensures machine { result ≢ Err Ending.Memory → IsAfter (board_in boot.old) (steps_made (board_in boot.old) (reverse events.now)) boot.new }
+    {
+        match self {
+            Command::Report => report::report_output(alloc, boot, events),
+            Command::Mrs { core, word } => mrs::read_output(alloc, core, word, boot, events),
+            Command::Trace => trace::trace_output(alloc, boot, events),
+        }
+    }
+}
+
+// The command of one word.
+fn command_named(name: &str) -> Option<Command>
+    ensures { result ≡ command_named name.now }
+{
+    if name == "report" {
+        Some(Command::Report)
+    } else if name == "trace" {
+        Some(Command::Trace)
+    } else {
+        None
+    }
+}
+
+// The command of a name and two arguments.
+fn command_of_two(name: &str, first: &str, second: &str) -> Option<Command>
+    ensures { result ≡ command_of_two name.now first.now second.now }
+{
+    if name != "mrs" {
+        return None;
+    }
+    let core = core_number(first.as_bytes())?;
+    let word = instruction_word(second.as_bytes())?;
+    Some(Command::Mrs { core, word })
+}
+
+// The number of a core: 1 to 9 decimal digits.
+#[tactic(auto, using(crate::proofs::SmallNumbers::nine_digits))]
+fn core_number(text: &[u8]) -> Option<u32>
+    ensures { result ≡ core_number text.now }
+{
+    if text.len() >= 10 {
+        return None;
+    }
+    let number = decimal(text)?;
+    Some(number as u32)
+}
+
+// An instruction: `0x` and 1 to 8 hexadecimal digits.
+#[tactic(auto, using(crate::proofs::SmallNumbers::eight_digits))]
+fn instruction_word(text: &[u8]) -> Option<u32>
+    ensures { result ≡ instruction_word text.now }
+{
+    let digits = text.strip_prefix(b"0x".as_slice())?;
+    if digits.len() >= 9 {
+        return None;
+    }
+    let word = hexadecimal(digits)?;
+    Some(word as u32)
+}

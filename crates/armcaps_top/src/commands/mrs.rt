@@ -1,0 +1,91 @@
+//! `mrs CORE WORD`: what a program on the core reads by the instruction.
+
+ghost use Rattle.std.specs.Prelude.{◌≡◌, ◌≢◌, ◌++◌, Ok, Err, IfOk, IfErr, OnOk, true, alloc_error, length, reverse, string_bytes};
+ghost use Rattle.armcaps_boot.specs.After.{IsAfter};
+ghost use Rattle.armcaps_boot.specs.Admission.{steps_made};
+ghost use Rattle.armcaps_mrs.specs.declared.read.UserRead.{UserRead};
+ghost use Rattle.armcaps_top.specs.Bringing.{IsAt, board_in};
+ghost use Rattle.armcaps_top.specs.Inside.{IsInstead};
+ghost use Rattle.armcaps_top.specs.Mrs.{general_name, read_line, read_refused_of, value_text};
+ghost use Rattle.armcaps_top.specs.Output.{output_after};
+ghost use Rattle.armcaps_top.specs.declared.commands.Command.TheVariants as Command;
+
+use crate::bringing::bring_up;
+use crate::ending::Ending;
+use armcaps_boot::{Boot, Event};
+use armcaps_mrs::{UserRead, UserRefused, read_user};
+use std::alloc::{AllocError, Global};
+use std::fmt::Write;
+
+/// Why nothing is read.
+#[derive(Clone, Copy)]
+pub enum ReadRefused {
+    /// This core is not admitted.
+    NotAdmitted { core: u32 },
+    /// This word is no instruction that reads a register for a program.
+    Undefined { word: u32 },
+}
+
+// Why nothing is read of this core by this word.
+fn read_refused_of(core: u32, word: u32, refused: UserRefused) -> ReadRefused
+    ensures { result ≡ read_refused_of core word refused }
+{
+    match refused {
+        UserRefused::NotAdmitted { .. } => ReadRefused::NotAdmitted { core },
+        UserRefused::Undefined => ReadRefused::Undefined { word },
+    }
+}
+
+// Adds the name of a general register.
+fn push_general_name(text: &mut String, number: u8) -> Result<(), AllocError>
+    ensures { OnOk result (string_bytes text.new ≡ string_bytes text.old ++ general_name number) }
+{
+    if number == 31 {
+        text.push_str("xzr")
+    } else {
+        write!(text, "x{number}")
+    }
+}
+
+// Adds a word after a space, and ends the line.
+#[tactic(auto, using(armcaps_report::proofs::Hexadecimal::word_written))]
+fn push_value(text: &mut String, value: u64) -> Result<(), AllocError>
+    ensures { OnOk result (string_bytes text.new ≡ string_bytes text.old ++ value_text value) }
+{
+    write!(text, " 0x{value:016x}\n")
+}
+
+// The line of what is read.
+fn read_line(alloc: Global, read: UserRead) -> Result<String, AllocError>
+    ensures { IfOk result (λ text. string_bytes text ≡ read_line read) }
+{
+    let mut text = String::new(alloc);
+    push_general_name(&mut text, read.rt)?;
+    push_value(&mut text, read.value)?;
+    Ok(text)
+}
+
+/// Makes the steps in their order, and reads.
+pub fn read_output(
+    alloc: Global,
+    core: u32,
+    word: u32,
+    boot: &mut Boot,
+    events: &[Event],
+) -> Result<String, Ending>
+    requires { IsAt 0 events.now (board_in boot.old) boot.old }
+    ensures output { IfOk result (λ text. output_after (Command.Mrs core word) (board_in boot.old) (reverse events.now) ≡ Ok (string_bytes text)) }
+    ensures instead { IfErr result (IsInstead (output_after (Command.Mrs core word) (board_in boot.old) (reverse events.now))) }
+    ensures machine { result ≢ Err Ending.Memory → IsAfter (board_in boot.old) (steps_made (board_in boot.old) (reverse events.now)) boot.new }
+{
+    if let Some(halt) = bring_up(boot, events) {
+        return Err(Ending::Panicked(halt));
+    }
+    match read_user(boot, core, word) {
+        Ok(read) => match read_line(alloc, read) {
+            Ok(text) => Ok(text),
+            Err(_) => Err(Ending::Memory),
+        },
+        Err(refused) => Err(Ending::NotRead(read_refused_of(core, word, refused))),
+    }
+}

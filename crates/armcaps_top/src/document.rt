@@ -1,0 +1,52 @@
+//! What an input is.
+
+ghost use Rattle.std.specs.Prelude.{◌≡◌, ◌≤◌, IfOk, IfErr, Ok, Some, drop, length};
+ghost use Rattle.armcaps_text.specs.Document.{reading_of};
+ghost use Rattle.armcaps_text.specs.Formats.{format_of};
+ghost use Rattle.armcaps_text.specs.Sound.{IsSound};
+ghost use Rattle.armcaps_top.specs.Document.{document, image_refusal};
+ghost use Rattle.armcaps_top.specs.Inside.{IsRefusedSo};
+
+use crate::ending::Ending;
+use crate::refusal::Refusal;
+use armcaps_text::{Machine, TextRefused};
+use std::alloc::Global;
+
+// Why so many bytes after a text are not those of an image of this length.
+fn image_refusal(image: u32, given: usize) -> Option<Refusal>
+    ensures { result ≡ image_refusal image given }
+{
+    if given < image as usize {
+        Some(Refusal::ImageShort {
+            got: given,
+            of: image,
+        })
+    } else if given > image as usize {
+        Some(Refusal::Trailing {
+            extra: given - image as usize,
+        })
+    } else {
+        None
+    }
+}
+
+/// The machine of a document and the place where its image begins, or else why the input is no document.
+#[tactic(auto, unfolding(crate::specs::Document::document))]
+pub fn machine_of(alloc: Global, bytes: &[u8]) -> Result<(Machine, usize), Ending>
+    requires { length bytes.now ≤ (format_of bytes.now).input }
+    ensures document { IfOk result (λ read. document bytes.now ≡ Ok (record { reading = reading_of read.0; image = drop read.1 bytes.now })) }
+    ensures sound { IfOk result (λ read. IsSound (reading_of read.0)) }
+    ensures refused { IfErr result (λ ending. IsRefusedSo (Some bytes.now) ending) }
+{
+    let (machine, place) = match Machine::read(alloc, bytes) {
+        Ok(read) => read,
+        Err(TextRefused::Line { line, kind }) => {
+            return Err(Ending::Refused(Refusal::Line { line, kind }));
+        }
+        Err(TextRefused::Memory) => return Err(Ending::Memory),
+    };
+    match image_refusal(machine.image, bytes.len() - place) {
+        None => Ok((machine, place)),
+        Some(refusal) => Err(Ending::Refused(refusal)),
+    }
+}

@@ -1,0 +1,57 @@
+//! Reading the input, up to the limit of its format.
+
+ghost use Rattle.std.specs.Prelude.{◌≡◌, ◌≤◌, ◌<◌, ◌+◌, ◌^◌, [], IfOk, IfErr, Ok, true, false, length};
+ghost use Rattle.armcaps_io.specs.Causes.{Rose};
+ghost use Rattle.armcaps_io.specs.Streams.{GivesAll, IsAtEnd, Moves};
+ghost use Rattle.armcaps_text.specs.Formats.{format_of};
+ghost use Rattle.armcaps_top.specs.Inside.{IsFailure, IsUnread};
+
+use crate::ending::Ending;
+use crate::refusal::Refusal;
+use armcaps_io::{InFault, Source, read_on};
+use armcaps_text::Format;
+use std::alloc::Global;
+
+// Reads on until the input has ended, or until there is one byte more than the limit, which answers false.
+fn read_past<S: Source>(source: &mut S, bytes: &mut Vec<u8>, limit: usize) -> Result<bool, Ending>
+    requires within { length bytes.old.items ≤ limit + 1 }
+    requires small { limit < 2 ^ 32 }
+    ensures moved { Moves (S.left source.old) (S.left source.new) bytes.old.items bytes.new.items }
+    ensures ended { result ≡ Ok true → IsAtEnd (S.left source.new) }
+    ensures within { result ≡ Ok true → length bytes.new.items ≤ limit }
+    ensures full { result ≡ Ok false → length bytes.new.items ≡ limit + 1 }
+    ensures failure { IfErr result (IsFailure (S.faults source.old) (S.faults source.new)) }
+    ensures never_falls { S.faults source.old ≤ S.faults source.new }
+{
+    match read_on(source, bytes, limit + 1) {
+        Ok(ended) => Ok(ended),
+        Err(InFault::Read) => Err(Ending::ReadFault),
+        Err(_) => Err(Ending::Memory),
+    }
+}
+
+/// All bytes of an input that has no more of them than its format allows, or else why it was not read. Of a longer input one
+/// byte more than the limit is read.
+pub fn read_input<S: Source>(alloc: Global, source: &mut S) -> Result<Vec<u8>, Ending>
+    ensures whole { IfOk result (λ bytes. GivesAll (S.left source.old) (S.left source.new) bytes.items) }
+    ensures within { IfOk result (λ bytes. length bytes.items ≤ (format_of bytes.items).input) }
+    ensures unread { IfErr result (IsUnread (S.left source.old) (S.faults source.old) (S.faults source.new)) }
+    ensures never_falls { S.faults source.old ≤ S.faults source.new }
+{
+    let mut bytes = Vec::new(alloc);
+    let first_limit = Format::one().input;
+    let ended = read_past(source, &mut bytes, first_limit)?;
+    if ended {
+        return Ok(bytes);
+    }
+    let limit = Format::of(&bytes).input;
+    if limit == first_limit {
+        return Err(Ending::Refused(Refusal::TooLong { limit }));
+    }
+    let ended_further = read_past(source, &mut bytes, limit)?;
+    if ended_further {
+        Ok(bytes)
+    } else {
+        Err(Ending::Refused(Refusal::TooLong { limit }))
+    }
+}
