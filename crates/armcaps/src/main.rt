@@ -2,10 +2,11 @@
 //! this file hands it the command line and the standard streams.
 #![tactic(auto)]
 
-ghost use Rattle.std.specs.Prelude.{map, string_bytes};
+ghost use Rattle.std.specs.Prelude.{◌≡◌, [], map, string_bytes};
 ghost use Rattle.std.specs.Process.{exit_status};
 ghost use Rattle.armcaps_top.specs.Run.{Promises};
 
+use armcaps_boot::Boot;
 use armcaps_io::{RealSink, RealSource, Sink, Source};
 use armcaps_top::run;
 use std::alloc::Global;
@@ -19,14 +20,16 @@ fn exit<S: Source, O: Sink, E: Sink>(
     input: &mut S,
     out: &mut O,
     err: &mut E,
+    machines: &mut Vec<Boot>,
 ) -> ExitCode
+    requires { machines.old.items ≡ [] }
     ensures { Promises (map string_bytes words.now)
         (record { old = S.left input.old; new = S.left input.new; before = S.faults input.old; now = S.faults input.new })
         (record { old = O.held out.old; new = O.held out.new; before = O.faults out.old; now = O.faults out.new })
         (record { old = E.held err.old; new = E.held err.new; before = E.faults err.old; now = E.faults err.new })
-        (exit_status result) }
+        machines.new.items (exit_status result) }
 {
-    ExitCode::from(run(alloc, words, input, out, err))
+    ExitCode::from(run(alloc, words, input, out, err, machines))
 }
 
 /// Ends with the status of `run`, and with 1 where the command line is no text or there is no memory for it.
@@ -40,5 +43,13 @@ fn main(rt: HostRuntime) -> ExitCode {
     let mut input = RealSource::new(rt.stdin());
     let mut out = RealSink::new(rt.stdout());
     let mut err = RealSink::new(rt.stderr());
-    exit(rt.alloc(), &words, &mut input, &mut out, &mut err)
+    let mut machines = Vec::new(rt.alloc());
+    exit(
+        rt.alloc(),
+        &words,
+        &mut input,
+        &mut out,
+        &mut err,
+        &mut machines,
+    )
 }

@@ -8,7 +8,7 @@ use Rattle.armcaps_boot.specs.Admission.{Board, halt_of}
 use Rattle.armcaps_boot.specs.After.{IsAfter}
 use Rattle.armcaps_boot.specs.First.{first_world}
 use Rattle.armcaps_boot.specs.Order.{in_order, is_complete}
-use Rattle.armcaps_boot.specs.Outcome.{IsBoard, IsSafe}
+use Rattle.armcaps_boot.specs.Outcome.{IsBoard}
 use Rattle.armcaps_boot.specs.Steps.{events_of, history}
 use Rattle.armcaps_boot.specs.World.{World}
 use Rattle.armcaps_text.specs.Document.{Reading}

@@ -1,6 +1,6 @@
 -- The fields of a document's system registers.
-use Rattle.std.proofs.Common.{◌≡◌, ℕ, ℤ, ◌<◌, Bool, true, false, cond, List, ◌-◌, ◌∷◌, ◌++◌, length, map, Option, Some, None, refl, sym, ◌∙◌, ap, arith, length-append}
-use Rattle.std.specs.Prelude.{Result, Ok, Err, nat_lt}
+use Rattle.std.proofs.Common.{◌≡◌, ℕ, ℤ, ◌<◌, Bool, true, false, cond, List, ◌-◌, ◌∷◌, ◌++◌, length, Option, Some, None, ◌∙◌, ap, arith, length-append}
+use Rattle.std.specs.Prelude.{Ok, Err, nat_lt}
 use Rattle.std.proofs.lemmas.List.{map-append}
 use Rattle.std.proofs.lemmas.Bool.Decides.{nat_tests}
 use Rattle.armcaps_rule.specs.Rule.{fold_of, merged}

@@ -1,14 +1,13 @@
 -- The limits of the formats, and inputs that are longer.
-use Rattle.std.proofs.Common.{◌≡◌, ℕ, ◌+◌, ◌<◌, ◌≤◌, ◌⊎◌, inl, inr, Bool, true, false, cond, nat_lt, List, [], ◌++◌, length, take, Option, None, Some, refl, sym, ap, subst, ◌∙◌, arith, length-append, lit≤}
+use Rattle.std.proofs.Common.{◌≡◌, ℕ, ◌<◌, ◌≤◌, ◌⊎◌, inl, inr, Bool, true, false, cond, nat_lt, List, [], ◌++◌, length, Option, None, Some, refl, sym, ap, ◌∙◌, arith, length-append, lit≤}
 use Rattle.std.specs.Prelude.{IfSome, Err, option_and_then, slice_get, unwrap_or}
 use Rattle.std.proofs.lemmas.Bool.Decides.{nat_tests}
 use Rattle.std.proofs.lemmas.List.{take-append-le}
 use Rattle.armcaps_io.specs.Streams.{Moves}
-use Rattle.armcaps_text.specs.Document.{outcome}
 use Rattle.armcaps_text.specs.Formats.{format_named, format_of, format_one, format_two}
 use Rattle.armcaps_text.specs.Lines.{ended_lines, first_mebibyte, lines_of}
 use Rattle.armcaps_text.specs.declared.format.Format.{Format}
-use Rattle.armcaps_top.specs.Document.{document, document_after}
+use Rattle.armcaps_top.specs.Document.{document}
 use Rattle.armcaps_top.specs.declared.refusal.Refusal.TheVariants.{TooLong}
 
 by_tests : (first second : Bool) → (unwrap_or (cond first (Some format_one) (cond second (Some format_two) None)) format_one ≡ format_one)

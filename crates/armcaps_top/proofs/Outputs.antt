@@ -1,6 +1,6 @@
 -- What commands write of a machine whose steps are all made.
-use Rattle.std.proofs.Common.{◌≡◌, ℕ, ◌<◌, ◌≤◌, ◌⊎◌, inl, inr, Bool, true, false, not, cond, ◌&&◌, List, ◌++◌, length, Option, Some, None, refl, sym, ap, subst, ◌∙◌, arith}
-use Rattle.std.specs.Prelude.{Result, Ok, Err, reverse, slice_get, ◌==◌}
+use Rattle.std.proofs.Common.{◌≡◌, ℕ, ◌<◌, ◌≤◌, ◌⊎◌, inl, inr, Bool, true, false, not, cond, List, length, Option, Some, None, refl, sym, ap, subst, ◌∙◌, arith}
+use Rattle.std.specs.Prelude.{Ok, Err, ◌==◌}
 use Rattle.std.proofs.lemmas.List.{get_or_past}
 use Rattle.std.proofs.lemmas.Bool.{cases_lt}
 use Rattle.armcaps_boot.specs.declared.cause.Cause.{Cause}
@@ -10,7 +10,7 @@ use Rattle.armcaps_boot.specs.declared.event.Event.{Event}
 use Rattle.armcaps_boot.specs.declared.event.Event.TheVariants.{Check, Local, Store, Offline, Finalise}
 use Rattle.armcaps_boot.specs.declared.past.Past.{Past}
 use Rattle.armcaps_boot.specs.Admission.{Board, halt_of, held_back, steps_made}
-use Rattle.armcaps_boot.specs.After.{IsAfter, past_from, state_from, state_of, states_after}
+use Rattle.armcaps_boot.specs.After.{IsAfter, past_from, state_from, state_of}
 use Rattle.armcaps_boot.specs.Causes.{stops_machine}
 use Rattle.armcaps_boot.specs.Facts.{Facts}
 use Rattle.armcaps_boot.specs.Findings.{findings_after, findings_of}
@@ -25,10 +25,9 @@ use Rattle.armcaps_mrs.specs.declared.refused.UserRefused.{UserRefused}
 use Rattle.armcaps_mrs.specs.Reading.{user_read}
 use Rattle.armcaps_report.specs.Report.{report_of}
 use Rattle.armcaps_report.specs.Settled.{AreSettled, is_settled}
-use Rattle.armcaps_top.specs.Mrs.{read_line, read_output, read_refused_of}
-use Rattle.armcaps_top.specs.Output.{output_after, read_or_not}
+use Rattle.armcaps_top.specs.Mrs.{read_line, read_refused_of}
+use Rattle.armcaps_top.specs.Output.{output_after}
 use Rattle.armcaps_top.specs.declared.commands.Command.TheVariants.{Report, Mrs}
-use Rattle.armcaps_top.specs.declared.ending.Ending.{Ending}
 use Rattle.armcaps_top.specs.declared.ending.Ending.TheVariants.{NotRead}
 use Rattle.armcaps_top.proofs.Steps.{made_whole}
 

@@ -1,5 +1,5 @@
 -- From what a command does to what a run promises.
-use Rattle.std.proofs.Common.{◌≡◌, ◌≢◌, ◌↔◌, ◌⊎◌, inl, inr, ℕ, ◌≤◌, true, List, [], Option, Some, None, refl, sym, ap, subst, arith, lit≤}
+use Rattle.std.proofs.Common.{◌≡◌, ◌≢◌, ◌⊎◌, inl, inr, ℕ, ◌≤◌, List, [], Option, Some, None, refl, sym, ap, subst, arith, lit≤}
 use Rattle.std.specs.Prelude.{Result, Ok, Err, IfSome, IsSome}
 use Rattle.std.specs.Option.{option_map}
 use Rattle.std.specs.Result.{IsOkAnd, IsErr}
@@ -188,16 +188,16 @@ promised words command input out err machines ending is does told =
       done = λ zero. rw is (at Done (done_of ending zero));
       safe = λ zero. rw is (does.safe (done_of ending zero));
       refused = λ three. rw is
-        (let refusal = refused_of ending three in
+          (let refusal = refused_of ending three in
           if_some (document_for (Some command) input.old) (λ found. found ≡ Err refusal.0) IsErr (λ found same. rw same refl) (at (Refused refusal.0) refusal.1));
       read_fault = λ four. at ReadFault (read_fault_of ending four);
       write_fault = λ five. rw is (at WriteFault (write_fault_of ending five));
       stopped = λ seven. rw is
-        (let halt = panicked_of ending seven in
+          (let halt = panicked_of ending seven in
           if_some (document_for (Some command) input.old) (λ found. IsOkAnd found (λ d. halt_in d ≡ Some halt.0)) (λ found. IsOkAnd found (λ d. IsSome (halt_in d)))
           (λ found. if_ok_and found (λ d. halt_in d ≡ Some halt.0) (λ d. IsSome (halt_in d)) (λ d same. rw same refl)) (at (Panicked halt.0) halt.1));
       not_read = λ nine. rw is
-        (let refused = not_read_of ending nine in
+          (let refused = not_read_of ending nine in
           if_some (answer_for (Some command) input.old) (λ answer. answer ≡ Err (NotRead refused.0)) IsReadRefused (λ answer same. (refused.0, same)) (at (NotRead refused.0) refused.1));
       silent = λ zero five. does.silent (λ same. zero (ap status_of same)) (λ same. five (ap status_of same));
       machine = λ has. rw is (does.machine has);

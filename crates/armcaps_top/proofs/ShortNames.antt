@@ -1,11 +1,10 @@
 -- Names fit the line on the error stream.
-use Rattle.std.proofs.Common.{◌≡◌, ℕ, ◌+◌, ◌≤◌, Bool, true, false, ◌&&◌, List, [], ◌∷◌, length, refl, ap, arith, lit≤, zero, suc}
+use Rattle.std.proofs.Common.{◌≡◌, ℕ, ◌≤◌, Bool, true, false, ◌&&◌, List, [], ◌∷◌, length, refl, ap, arith, lit≤, zero, suc}
 use Rattle.std.specs.Prelude.{nat_le, slice_get, Option}
 use Rattle.std.specs.List.{list_all}
 use Rattle.std.specs.Option.{option_map_or}
 use Rattle.std.proofs.lemmas.Bool.Decides.{nat_tests}
 use Rattle.armcaps_caps.specs.Capabilities.{capability_name}
-use Rattle.armcaps_caps.specs.Row as caps
 use Rattle.armcaps_caps.specs.Rows.{capability_rows}
 use Rattle.armcaps_hwcap.specs.Hwcaps.{hwcap_name}
 use Rattle.armcaps_hwcap.specs.Row as hwcaps

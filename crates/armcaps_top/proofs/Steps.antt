@@ -1,6 +1,6 @@
 -- Steps in their order, as a machine makes them.
-use Rattle.std.proofs.Common.{◌≡◌, ℕ, ◌+◌, ◌<◌, ◌≤◌, Bool, true, false, ◌&&◌, List, [], ◌∷◌, ◌++◌, length, take, drop, get_or, refl, sym, ap, subst, ◌∙◌, arith, take_all, take-append-drop}
-use Rattle.std.specs.Prelude.{reverse, Result, Ok, Option, Some, None, is_some, if◌then◌else◌}
+use Rattle.std.proofs.Common.{◌≡◌, ℕ, ◌+◌, ◌<◌, Bool, true, false, ◌&&◌, List, [], ◌∷◌, ◌++◌, length, take, drop, get_or, refl, sym, ap, subst, ◌∙◌, arith, take_all, take-append-drop}
+use Rattle.std.specs.Prelude.{reverse, Result, Ok, Option, Some, None, is_some}
 use Rattle.std.specs.Option.{option_or}
 use Rattle.std.proofs.lemmas.List.{reverse-append, take_more}
 use Rattle.armcaps_boot.specs.declared.event.Event.{Event}
@@ -101,7 +101,7 @@ stops_at board index events default halt inside going stopped =
     subst (λ (steps : List Event). halt_of board steps ≡ Some halt) more stopped in record {
       halt_is = ap (halt_of board) apart ∙ halt_stays board (reverse (drop (index + 1) events)) (steps_before (index + 1) events) halt stopped;
       made = ap (steps_made board) (apart ∙ ap (λ (steps : List Event). reverse (drop (index + 1) events) ++ steps) more)
-      ∙ made_part board (reverse (drop (index + 1) events)) (steps_before index events) (get_or events index default) halt going at ∙ sym more;
+          ∙ made_part board (reverse (drop (index + 1) events)) (steps_before index events) (get_or events index default) halt going at ∙ sym more;
     }
 
 pub none_of : (halt : Option Halt) → is_some halt ≡ false → halt ≡ None

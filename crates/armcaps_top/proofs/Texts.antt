@@ -1,5 +1,5 @@
 -- Texts that are made piece by piece.
-use Rattle.std.proofs.Common.{◌≡◌, ℕ, List, ◌++◌, refl, append_assoc}
+use Rattle.std.proofs.Common.{◌≡◌, ℕ, List, ◌++◌, append_assoc}
 
 pub two_pieces : (line a b one all : List ℕ) → one ≡ line ++ a → all ≡ one ++ b → all ≡ line ++ (a ++ b)
 two_pieces line a b one all first last = rw (last, first) (simp append_assoc)

@@ -7,13 +7,13 @@ use Rattle.armcaps_boot.specs.World.{World}
 use Rattle.armcaps_boot.specs.Outcome.{IsSafe}
 use Rattle.armcaps_io.specs.Causes.{Rose}
 use Rattle.armcaps_io.specs.Streams.{Keeps}
-use Rattle.armcaps_top.specs.Document.{Document, document}
+use Rattle.armcaps_top.specs.Document.{document}
 use Rattle.armcaps_top.specs.Ending.{status_of}
 use Rattle.armcaps_top.specs.Output.{board_of}
 use Rattle.armcaps_top.specs.Run.{Change, IsDocumentAnd, LeavesMachine, Reason, has_machine, steps_of}
 use Rattle.armcaps_top.specs.declared.commands.Command.{Command}
 use Rattle.armcaps_top.specs.declared.ending.Ending.{Ending}
-use Rattle.armcaps_top.specs.declared.ending.Ending.TheVariants.{Done, Usage, Refused, ReadFault, WriteFault, Memory, Panicked, NotRead}
+use Rattle.armcaps_top.specs.declared.ending.Ending.TheVariants.{Done, Usage, Refused, ReadFault, WriteFault, Memory}
 
 -- the source failed, or there was no memory
 abbrev pub IsFailure : ℕ → ℕ → Ending → Type 0

@@ -68,7 +68,12 @@ fn push_step(text: &mut String, number: usize, event: Event, reply: Reply) -> Re
 }
 
 // Adds a register's line where its word changes.
-fn push_change(text: &mut String, register: SysReg, before: u64, after: u64) -> Result<(), AllocError>
+fn push_change(
+    text: &mut String,
+    register: SysReg,
+    before: u64,
+    after: u64,
+) -> Result<(), AllocError>
     ensures { OnOk result (string_bytes text.new ≡ string_bytes text.old ++ changed_line register before after) }
 {
     if before == after {
@@ -117,7 +122,11 @@ fn trace_step(
 
 // Makes steps in their order, up to one that stops the machine, and adds their trace.
 #[tactic(auto, unfolding(crate::specs::Trace::trace_of))]
-fn trace_steps(text: &mut String, boot: &mut Boot, events: &[Event]) -> Result<Option<Halt>, AllocError>
+fn trace_steps(
+    text: &mut String,
+    boot: &mut Boot,
+    events: &[Event],
+) -> Result<Option<Halt>, AllocError>
     requires { IsAt 0 events.now (board_in boot.old) boot.old }
     ensures halt { IfOk result (λ halt. halt ≡ halt_of (board_in boot.old) (reverse events.now)) }
     ensures machine { IsOk result → IsAfter (board_in boot.old) (steps_made (board_in boot.old) (reverse events.now)) boot.new }

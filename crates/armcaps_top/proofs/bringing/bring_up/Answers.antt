@@ -1,6 +1,6 @@
 use Rattle.std.proofs.Common.{sym, ◌∙◌}
 use Rattle.armcaps_top.specs.Bringing.{board_in}
-use Rattle.armcaps_top.proofs.Brought.{finished, goes_on, stopped}
+use Rattle.armcaps_top.proofs.Brought.{finished, stopped}
 use Rattle.armcaps_top.proofs.bringing.bring_up.Goals as goal
 
 pub returns-in-Some-clause-halt : goal.returns-in-Some-clause-halt

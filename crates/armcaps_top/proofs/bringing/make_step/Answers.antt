@@ -1,10 +1,8 @@
-use Rattle.std.proofs.Common.{◌≡◌, ◌+◌, ◌∷◌, length, get_or, refl, subst, sym, ◌∙◌}
-use Rattle.std.specs.Prelude.{Ok, List}
+use Rattle.std.proofs.Common.{◌∷◌, length, get_or, refl, subst, sym, ◌∙◌}
+use Rattle.std.specs.Prelude.{List}
 use Rattle.armcaps_boot.specs.declared.event.Event.{Event}
 use Rattle.armcaps_boot.specs.declared.event.Event.TheVariants.{Check}
-use Rattle.armcaps_boot.specs.declared.reply.Reply.{Reply}
 use Rattle.armcaps_boot.specs.After.{IsAfter, reply_of}
-use Rattle.armcaps_boot.specs.Answers.{answer_of}
 use Rattle.armcaps_top.specs.Bringing.{board_in, steps_before}
 use Rattle.armcaps_top.proofs.Steps.{comes_next, ok_same, steps_more}
 use Rattle.armcaps_top.proofs.bringing.make_step.Goals as goal
@@ -14,9 +12,11 @@ unwrap-requires c =
     let at = c.requires.at in
     let board = board_in c.args.boot.now in
     let ready = comes_next (length board.cores) board.boot c.args.index c.args.events.now (Check 0) c.requires.inside at.order in
-    rw (c.step.ensures.answer,
+    rw (
+      c.step.ensures.answer,
       c.steps_are_answered.ensures.answer board (steps_before c.args.index c.args.events.now) (get_or c.args.events.now c.args.index (Check 0)) c.args.boot.now
-      c.facts_hold.ensures at.after ready.order ready.next at.going) refl
+          c.facts_hold.ensures at.after ready.order ready.next at.going,
+    ) refl
 
 pub returns-clause-reply : goal.returns-clause-reply
 returns-clause-reply c =
@@ -25,8 +25,8 @@ returns-clause-reply c =
     let ready = comes_next (length board.cores) board.boot c.args.index c.args.events.now (Check 0) c.requires.inside at.order in
     ok_same c.step.result c.unwrap.result (reply_of board (steps_before c.args.index c.args.events.now) (get_or c.args.events.now c.args.index (Check 0)))
     c.unwrap.ensures (c.step.ensures.answer
-      ∙ c.steps_are_answered.ensures.answer board (steps_before c.args.index c.args.events.now) (get_or c.args.events.now c.args.index (Check 0)) c.args.boot.now
-      c.facts_hold.ensures at.after ready.order ready.next at.going)
+    ∙ c.steps_are_answered.ensures.answer board (steps_before c.args.index c.args.events.now) (get_or c.args.events.now c.args.index (Check 0)) c.args.boot.now
+    c.facts_hold.ensures at.after ready.order ready.next at.going)
 
 pub returns-clause-after : goal.returns-clause-after
 returns-clause-after c =

@@ -47,7 +47,7 @@ returns-clause-machine c = λ had_memory.
     let one = pushed c.args.machines.now.items c.push.new.self.items c.output-output.new.boot (is_ok c.push.result) c.push.ensures.items done c.requires.none in
     subst (λ (machines : List World). LeavesAfter (board_of (reading_of c.args.machine)) (history c.args.machine.steps.items) machines) (sym one)
     (subst (λ (steps : List Event). IsAfter (board_of (reading_of c.args.machine)) steps c.output-output.new.boot) made
-      (subst (λ (b : Board). IsAfter b (steps_made (board_in c.in-Ok-new.boot) (reverse c.deref-2.result.now)) c.output-output.new.boot) board (c.output-output.ensures.machine had_memory)))
+    (subst (λ (b : Board). IsAfter b (steps_made (board_in c.in-Ok-new.boot) (reverse c.deref-2.result.now)) c.output-output.new.boot) board (c.output-output.ensures.machine had_memory)))
 
 pub returns-clause-safe : goal.returns-clause-safe
 returns-clause-safe c =
@@ -57,5 +57,5 @@ returns-clause-safe c =
     if_ok c.output-output.result (λ text. output_after c.args.command (board_in c.in-Ok-new.boot) (reverse c.deref-2.result.now) ≡ Ok (string_bytes text))
     (λ text. IsSafe board (history c.args.machine.steps.items))
     (λ text is. c.documents_are_safe.ensures board (history c.args.machine.steps.items) (is_board (reading_of c.args.machine) c.requires.sound) c.requires.sound.order
-      c.requires.sound.complete (goes_through c.args.command board (history c.args.machine.steps.items) (string_bytes text) (sym same ∙ is)))
+    c.requires.sound.complete (goes_through c.args.command board (history c.args.machine.steps.items) (string_bytes text) (sym same ∙ is)))
     c.output-output.ensures.output

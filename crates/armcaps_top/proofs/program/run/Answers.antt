@@ -14,8 +14,8 @@ returns g c =
     elim c.match-of.branch [
       | in-Some w ↦ rw (w.input-is, w.out-is, w.machines-is, c.status.ensures, w.ending-is)
           (promised (map string_bytes c.args.words.now) w.in-Some.command _ _ _ _ w.perform-ending.result (sym c.of.ensures ∙ w.in-Some.is) w.perform-ending.ensures
-            (subst (λ (ending : Ending). Tells ending old new before now) w.ending-is c.tell.ensures))
+          (subst (λ (ending : Ending). Tells ending old new before now) w.ending-is c.tell.ensures))
       | in-None w ↦ rw (w.input-is, w.out-is, w.machines-is, c.status.ensures, w.ending-is)
           (promised_nothing (map string_bytes c.args.words.now) _ _ _ _ (sym c.of.ensures ∙ w.in-None.is) refl refl c.requires
-            (subst (λ (ending : Ending). Tells ending old new before now) w.ending-is c.tell.ensures))
+          (subst (λ (ending : Ending). Tells ending old new before now) w.ending-is c.tell.ensures))
     ]

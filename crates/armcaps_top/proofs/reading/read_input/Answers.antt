@@ -1,4 +1,4 @@
-use Rattle.std.proofs.Common.{◌≡◌, ℕ, ◌+◌, ◌≤◌, List, [], Ok, ap, arith, length, subst, sym, ◌∙◌}
+use Rattle.std.proofs.Common.{◌≡◌, ℕ, ◌+◌, List, [], Ok, ap, arith, length, subst, sym, ◌∙◌}
 use Rattle.armcaps_io.specs.Streams.{Moves}
 use Rattle.armcaps_io.proofs.StreamLemmas.{Moves-trans}
 use Rattle.armcaps_text.specs.Formats.{format_of}
@@ -8,8 +8,12 @@ use Rattle.armcaps_top.proofs.reading.read_input.Goals as goal
 
 pub returns-then-ended-clause-within : goal.returns-then-ended-clause-within
 returns-then-ended-clause-within g c =
-    omega (arith, c.in_ok-ended.ensures.within (ap Ok c.if-ended.true), ap (λ (f : Format). f.input) c.one-first_limit.ensures,
-      (limits c.read_past.new.bytes.items).least)
+    omega (
+      arith,
+      c.in_ok-ended.ensures.within (ap Ok c.if-ended.true),
+      ap (λ (f : Format). f.input) c.one-first_limit.ensures,
+      (limits c.read_past.new.bytes.items).least,
+    )
 
 pub returns-then-limit-first_limit-clause-unread : goal.returns-then-limit-first_limit-clause-unread
 returns-then-limit-first_limit-clause-unread g c =

@@ -1,4 +1,4 @@
-use Rattle.std.proofs.Common.{◌≡◌, ◌≤◌, ◌∙◌, ap, length, List, ℕ, subst, sym}
+use Rattle.std.proofs.Common.{◌≤◌, ◌∙◌, ap, length, List, ℕ, subst, sym}
 use Rattle.std.specs.Prelude.{Some, None}
 use Rattle.armcaps_hwcap.specs.Hwcaps.{hwcap_name}
 use Rattle.armcaps_hwcap.specs.RowOf.{row_of}

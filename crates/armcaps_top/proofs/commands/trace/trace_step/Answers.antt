@@ -1,4 +1,4 @@
-use Rattle.std.proofs.Common.{◌≡◌, ℕ, ◌+◌, ◌∷◌, ◌++◌, List, arith, ap, get_or, length, string_bytes, subst, sym, ◌∙◌}
+use Rattle.std.proofs.Common.{ℕ, ◌+◌, ◌++◌, List, arith, ap, get_or, length, string_bytes, sym, ◌∙◌}
 use Rattle.std.specs.Prelude.{reverse}
 use Rattle.armcaps_boot.specs.declared.event.Event.{Event}
 use Rattle.armcaps_boot.specs.declared.event.Event.TheVariants.{Check}
@@ -30,5 +30,5 @@ returns-clause-lines c = λ done.
     (admitted_by board (reverse events) (steps_before (index + 1) events)) before after in
     two_pieces old _ _ _ _
     (c.in_ok-push_step.ensures ∙ ap (λ (n : ℕ). old ++ step_line (n + 1) event reply) (sym (number_of_steps index events (omega (arith, c.requires.inside))))
-      ∙ ap (λ (r : Reply). old ++ step_line (length past + 1) event r) c.make_step-reply.ensures.reply)
+    ∙ ap (λ (r : Reply). old ++ step_line (length past + 1) event r) c.make_step-reply.ensures.reply)
     (changes ∙ ap (λ (p : List Event). string_bytes c.push_step.new.text ++ changed_lines board.overrides (admitted_by board (reverse events) past) (admitted_by board (reverse events) p)) more)

@@ -1,4 +1,4 @@
-use Rattle.std.proofs.Common.{◌≡◌, ℕ, ◌++◌, List, append-nil, ap, codes, get_or, refl, string_bytes, subst, sym, ◌∙◌}
+use Rattle.std.proofs.Common.{ℕ, ◌++◌, List, append-nil, ap, codes, get_or, refl, string_bytes, subst, sym, ◌∙◌}
 use Rattle.std.specs.Prelude.{reverse, Ok}
 use Rattle.armcaps_boot.specs.declared.event.Event.{Event}
 use Rattle.armcaps_boot.specs.declared.event.Event.TheVariants.{Check}
@@ -27,13 +27,13 @@ pub returns-then-is_some-clause-halt : goal.returns-then-is_some-clause-halt
 returns-then-is_some-clause-halt c =
     let some = some_of c.in_ok-halt.halt (sym c.is_some.ensures ∙ c.if-is_some.true) in
     some.1 ∙ sym (stopped (board_in c.args.boot.now) c.loop-index.index c.args.events.now c.loop-index.boot c.trace_step.new.boot some.0 c.loop-index-test.true
-      c.loop-index.invariant.at c.trace_step.ensures.after (halt_found c.trace_step.ensures.after c.in_ok-halt.ensures.halt ∙ some.1)).halt_is
+    c.loop-index.invariant.at c.trace_step.ensures.after (halt_found c.trace_step.ensures.after c.in_ok-halt.ensures.halt ∙ some.1)).halt_is
 
 pub returns-then-is_some-clause-machine : goal.returns-then-is_some-clause-machine
 returns-then-is_some-clause-machine c = λ done.
     let some = some_of c.in_ok-halt.halt (sym c.is_some.ensures ∙ c.if-is_some.true) in
     (stopped (board_in c.args.boot.now) c.loop-index.index c.args.events.now c.loop-index.boot c.trace_step.new.boot some.0 c.loop-index-test.true
-      c.loop-index.invariant.at c.trace_step.ensures.after (halt_found c.trace_step.ensures.after c.in_ok-halt.ensures.halt ∙ some.1)).made
+    c.loop-index.invariant.at c.trace_step.ensures.after (halt_found c.trace_step.ensures.after c.in_ok-halt.ensures.halt ∙ some.1)).made
 
 pub loop-index-preserved : goal.loop-index-preserved
 loop-index-preserved c =
@@ -43,10 +43,10 @@ loop-index-preserved c =
     let none = none_of c.in_ok-halt.halt (sym c.is_some.ensures ∙ c.if-is_some.false) in
     let same = board_kept board (steps_before index events) c.loop-index.boot c.loop-index.invariant.at.after in record {
       at = goes_on board index events c.loop-index.boot c.trace_step.new.boot c.loop-index.invariant.at c.trace_step.ensures.after
-        (halt_found c.trace_step.ensures.after c.in_ok-halt.ensures.halt ∙ none);
+          (halt_found c.trace_step.ensures.after c.in_ok-halt.ensures.halt ∙ none);
       text = lines_more board index events (Check 0) (string_bytes c.args.text.now ++ codes "armcaps trace 1\n") _ _ c.loop-index-test.true c.loop-index.invariant.text
-        (c.in_ok-halt.ensures.lines (ap Ok none)
-        ∙ ap (λ (b : Board). string_bytes c.loop-index.text ++ step_lines b (reverse events) (steps_before index events) (get_or events index (Check 0))) same);
+          (c.in_ok-halt.ensures.lines (ap Ok none)
+          ∙ ap (λ (b : Board). string_bytes c.loop-index.text ++ step_lines b (reverse events) (steps_before index events) (get_or events index (Check 0))) same);
     }
 
 pub returns-clause-halt : goal.returns-clause-halt
