@@ -43,11 +43,6 @@ fn run_on(alloc: Global, line: &str, input: &[u8]) -> Result<Ran, Fail> {
     })
 }
 
-/// Whether a text stands in an output.
-fn has(out: &[u8], text: &str) -> bool {
-    text.is_empty() || out.windows(text.len()).any(|part| part == text.as_bytes())
-}
-
 /// Words and inputs, with the status and what `out` and `err` get.
 #[test]
 fn answers(rt: HostRuntime) -> Result<(), Fail> {
@@ -265,210 +260,6 @@ fn refusals(rt: HostRuntime) -> Result<(), Fail> {
     Ok(())
 }
 
-/// Documents, with a part that their report has and one that it has not.
-#[test]
-fn reports(rt: HostRuntime) -> Result<(), Fail> {
-    let cases = [
-        (
-            "armcaps 1\ncore 0\nid_aa64isar0_el1 0x0000100010211120\ncore 1\nid_aa64isar0_el1 0x11120\nboot 0\nonline 1\nfinalise\nend\n",
-            "reg id_aa64isar0_el1 0x0000000000011120\n",
-            "HAS_LSE_ATOMICS",
-        ),
-        (
-            "armcaps 1\ncore 0\nid_aa64isar0_el1 0x0000100010211120\ncore 1\nid_aa64isar0_el1 0x11120\nboot 0\nonline 1\nfinalise\nend\n",
-            "\nuser dczid_el0 0x0000000000000000\nvaries id_aa64isar0_el1\ncap 0 ALWAYS_BOOT\ncap 1 ALWAYS_SYSTEM\ncap 8 HAS_CRC32\ncap 41 HAS_FPSIMD\nhwcap 0x00000000000008fb\n",
-            "core 1 late",
-        ),
-        (
-            "armcaps 1\ncore 0\nid_aa64isar0_el1 0x11120\ncore 1\nid_aa64isar0_el1 0x0000100010211120\nboot 0\nonline 1\nfinalise\nend\n",
-            "reg id_aa64isar0_el1 0x0000000000011120\n",
-            "HAS_LSE_ATOMICS",
-        ),
-        (
-            "armcaps 1\ncore 0\nid_aa64isar0_el1 0x11120\ncore 1\nid_aa64isar0_el1 0x0000100010211120\nboot 0\nonline 1\nfinalise\nend\n",
-            "\nuser dczid_el0 0x0000000000000000\nvaries id_aa64isar0_el1\ncap 0 ALWAYS_BOOT\ncap 1 ALWAYS_SYSTEM\ncap 8 HAS_CRC32\ncap 41 HAS_FPSIMD\nhwcap 0x00000000000008fb\n",
-            "core 1 late",
-        ),
-        (
-            "armcaps 1\ncore 0\nid_aa64pfr0_el1 0\ncore 1\nid_aa64pfr0_el1 0xf0000\nboot 0\nonline 1\nfinalise\nend\n",
-            "reg id_aa64pfr0_el1 0x00000000000f0000\n",
-            "HAS_FPSIMD",
-        ),
-        (
-            "armcaps 1\ncore 0\nid_aa64pfr0_el1 0\ncore 1\nid_aa64pfr0_el1 0xf0000\nboot 0\nonline 1\nfinalise\nend\n",
-            "hwcap 0x0000000000000802\nhwcap2 0x0000000000000000\nflags asimd cpuid\nend\n",
-            "core 1 late",
-        ),
-        (
-            "armcaps 1\ncore 0\nctr_el0 0x84448004\ncore 1\nctr_el0 0x80448004\nboot 0\nonline 1\nfinalise\nend\n",
-            "reg ctr_el0 0x0000000080448004\n",
-            "core 1 late",
-        ),
-        (
-            "armcaps 1\ncore 0\nctr_el0 0x84448004\ncore 1\nctr_el0 0x85448004\nboot 0\nonline 1\nfinalise\nend\n",
-            "reg ctr_el0 0x0000000085448004\n",
-            "core 1 late",
-        ),
-        (
-            "armcaps 1\ncore 0\nctr_el0 0x84448004\ncore 1\nctr_el0 0x85448004\nboot 0\nonline 1\nfinalise\nend\n",
-            "cap 42 MISMATCHED_CACHE_TYPE\nhwcap ",
-            "core 1 late",
-        ),
-        (
-            "armcaps 1\ncore 0\nctr_el0 0x8444c004\ncore 1\nctr_el0 0x8444c004\nboot 0\nonline 1\nfinalise\nend\n",
-            "reg ctr_el0 0x000000008444c004\n",
-            "MISMATCHED",
-        ),
-        (
-            "armcaps 1\ncore 0\nctr_el0 0x8444c004\ncore 1\nctr_el0 0x84444004\ncore 2\nctr_el0 0x8444c004\nboot 0\nonline 1\nonline 2\nfinalise\nend\n",
-            "reg ctr_el0 0x0000000084448004\n",
-            "MISMATCHED",
-        ),
-        (
-            "armcaps 1\ncore 0\nid_aa64pfr0_el1 0x100000000\nid_aa64pfr1_el1 0x1000000\nboot 0\ncmdline quiet arm64.nosve\nfinalise\nend\n",
-            "note id_aa64pfr0.sve forced\nnote id_aa64pfr1.sme forced\nnote id_aa64zfr0.svever already\n",
-            "reg id_aa64pfr0_el1 0x0000000100000000\n",
-        ),
-        (
-            "armcaps 1\ncore 0\nid_aa64pfr0_el1 0x100000000\nid_aa64pfr1_el1 0x1000000\nboot 0\ncmdline quiet arm64.nosve\nfinalise\nend\n",
-            "note id_aa64smfr0.fa64 already\ncap 0 ALWAYS_BOOT\n",
-            "ignored",
-        ),
-        (
-            "armcaps 1\ncore 0\nid_aa64pfr0_el1 0x100000000\nboot 0\ncmdline id_aa64pfr0.sve=2\nfinalise\nend\n",
-            "note id_aa64pfr0.sve ignored\ncap 0 ALWAYS_BOOT\ncap 1 ALWAYS_SYSTEM\ncap 36 SVE\n",
-            "forced",
-        ),
-        (
-            "armcaps 1\ncore 0\nid_aa64pfr1_el1 0x20\ncore 1\nboot 0\ncmdline id_aa64pfr1.ssbs=1\nfinalise\nonline 1\nend\n",
-            "core 1 parked cap 40 SSBS\n",
-            "ssbs cpuid",
-        ),
-        (
-            "armcaps 1\ncore 0\nid_aa64pfr1_el1 0x20\ncore 1\nboot 0\ncmdline id_aa64pfr1.ssbs=1\nfinalise\nonline 1\nend\n",
-            "reg id_aa64pfr1_el1 0x0000000000000010\n",
-            " ssbs",
-        ),
-        (
-            "armcaps 1\ncore 0\nid_aa64isar0_el1 0x10211120\ncore 1\nid_aa64isar0_el1 0x11120\nboot 0\nfinalise\nonline 1\nend\n",
-            "core 0 boot\ncore 1 parked cap 7 HAS_LSE_ATOMICS\n",
-            "reg id_aa64isar0_el1 0x0000000000011120\n",
-        ),
-        (
-            "armcaps 1\ncore 0\nmidr_el1 0x410fd034\nboot 0\nfinalise\nend\n",
-            "cap 43 WORKAROUND_843419\ncap 44 WORKAROUND_845719\nhwcap",
-            "cap 45",
-        ),
-        (
-            "armcaps 1\ncore 0\nmidr_el1 0x410fd034\nrevidr_el1 0x100\ncore 1\nmidr_el1 0x410fd034\nboot 0\nfinalise\nonline 1\nend\n",
-            "core 1 parked cap 43 WORKAROUND_843419\n",
-            "cap 43 WORKAROUND_843419\ncap 44",
-        ),
-        (
-            "armcaps 1\ncore 0\nctr_el0 0x84448004\ncore 1\nctr_el0 0x84448004\ncore 2\nctr_el0 0x84438004\nboot 0\ncheck 1\ncheck 2\nlocal 1\nlocal 2\nstore 2\nstore 1\nfinalise\nend\n",
-            "varies ctr_el0\ncap 0 ALWAYS_BOOT\ncap 1 ALWAYS_SYSTEM\ncap 41 HAS_FPSIMD\ncap 42 MISMATCHED_CACHE_TYPE\n",
-            "reg ctr_el0 0x0000000084448004\n",
-        ),
-        (
-            "armcaps 1\ncore 0\nctr_el0 0x84448004\ncore 1\nctr_el0 0x84448004\ncore 2\nctr_el0 0x84438004\nboot 0\nonline 1\nonline 2\nfinalise\nend\n",
-            "varies ctr_el0\ncap 0 ALWAYS_BOOT\ncap 1 ALWAYS_SYSTEM\ncap 41 HAS_FPSIMD\ncap 42 MISMATCHED_CACHE_TYPE\n",
-            "reg ctr_el0 0x0000000084448004\n",
-        ),
-        (
-            "armcaps 1\ncore 0\nctr_el0 0x84448004\ncore 1\nctr_el0 0x84438004\nboot 0\nfinalise\nonline 1\nend\n",
-            "core 1 parked cap 42 MISMATCHED_CACHE_TYPE\n",
-            "varies",
-        ),
-        (
-            "armcaps 1\ncore 0\nctr_el0 0x8444c004\ncore 1\nctr_el0 0x84448004\nboot 0\nfinalise\nonline 1\nend\n",
-            "core 1 late\n",
-            "reg ctr_el0 0x000000008444c004\n",
-        ),
-        (
-            "armcaps 1\ncore 0\nid_aa64isar0_el1 0x11120\ncore 1\nid_aa64isar0_el1 0x11020\nboot 0\nfinalise\nonline 1\nend\n",
-            "core 1 parked hwcap sha1\n",
-            "varies",
-        ),
-        (
-            "armcaps 1\ncore 0\nid_aa64pfr1_el1 0x300\ncore 1\nid_aa64pfr1_el1 0x200\nboot 0\nonline 1\nfinalise\nend\n",
-            "core 1 parked cap 6 MTE_ASYMM\n",
-            "varies",
-        ),
-        (
-            "armcaps 1\ncore 0\nid_aa64pfr1_el1 0x300\ncore 1\nid_aa64pfr1_el1 0x200\nboot 0\nonline 1\nfinalise\nend\n",
-            "hwcap2 0x0000000000440000\n",
-            "reg id_aa64pfr1_el1 0x0000000000000200\n",
-        ),
-        (
-            "armcaps 1\ncore 0\nid_aa64isar1_el1 0x10\ncore 1\nid_aa64isar1_el1 0x100\nboot 0\nonline 1\nfinalise\nend\n",
-            "core 1 parked cap 2 HAS_ADDRESS_AUTH_ARCH_QARMA5\n",
-            "varies",
-        ),
-        (
-            "armcaps 1\ncore 0\nid_aa64pfr0_el1 0x110000\nboot 0\nfinalise\nend\n",
-            "hwcap 0x0000000000000e03\n",
-            "varies",
-        ),
-        (
-            "armcaps 1\ncore 0\nid_aa64isar1_el1 0x11000010\nboot 0\nfinalise\nend\n",
-            "hwcap 0x00000000c0000803\nhwcap2 0x0000000000000000\nflags fp asimd cpuid paca pacg\nend\n",
-            "varies",
-        ),
-        (
-            "armcaps 1\ncore 0\nid_aa64isar0_el1 0x10211120\ncore 1\nid_aa64isar0_el1 0x11120\ncore 2\nid_aa64isar0_el1 0x10211120\nboot 0\nfinalise\ncheck 1\ncheck 2\nlocal 2\nlocal 1\nstore 1\nstore 2\nend\n",
-            "core 0 boot\ncore 1 parked cap 7 HAS_LSE_ATOMICS\ncore 2 late\n",
-            "reg id_aa64isar0_el1 0x0000000000011120\n",
-        ),
-        (
-            "armcaps 1\ncore 0\nid_aa64isar0_el1 0x10211120\ncore 1\nid_aa64isar0_el1 0x11120\ncore 2\nid_aa64isar0_el1 0x10211120\nboot 0\nfinalise\nonline 2\nonline 1\nend\n",
-            "core 0 boot\ncore 1 parked cap 7 HAS_LSE_ATOMICS\ncore 2 late\n",
-            "reg id_aa64isar0_el1 0x0000000000011120\n",
-        ),
-        (
-            "armcaps 2\ncore 0\nid_aa64isar0_el1 0x10211120\ncore 1\nid_aa64isar0_el1 0x10211120\nboot 0\nonline 1\nfinalise\noffline 1\nend\n",
-            "core 1 early offline\n",
-            "reg id_aa64isar0_el1 0x0000000000011120\n",
-        ),
-        (
-            "armcaps 2\ncore 0\nid_aa64isar0_el1 0x10211120\ncore 1\nid_aa64isar0_el1 0x10211120\nboot 0\nonline 1\nfinalise\noffline 1\ncheck 1\nlocal 1\nstore 1\nend\n",
-            "core 1 early\n",
-            "offline",
-        ),
-        (
-            "armcaps 2\ncore 0\nid_aa64isar0_el1 0x10211120\ncore 1\nid_aa64isar0_el1 0x11120\nboot 0\nfinalise\nonline 1\noffline 1\nonline 1\nend\n",
-            "core 1 parked cap 7 HAS_LSE_ATOMICS\n",
-            "offline",
-        ),
-        (
-            "armcaps 2\ncore 0\nid_aa64pfr0_el1 0x100000000\nsve_vl 0x3\ncore 1\nid_aa64pfr0_el1 0x100000000\nsve_vl 0x7\ncore 2\nid_aa64pfr0_el1 0x100000000\nsve_vl 0x1\ncore 3\nid_aa64pfr0_el1 0x100000000\nsve_vl 0xb\nboot 0\nonline 1\nfinalise\nonline 2\nonline 3\nend\n",
-            "core 1 early\ncore 2 parked vl 256\ncore 3 late\n",
-            "vl 384",
-        ),
-        (
-            "armcaps 2\ncore 0\nid_aa64pfr0_el1 0x100000000\nsve_vl 0x3\ncore 1\nid_aa64pfr0_el1 0x100000000\nsve_vl 0x7\ncore 2\nid_aa64pfr0_el1 0x100000000\nsve_vl 0x1\ncore 3\nid_aa64pfr0_el1 0x100000000\nsve_vl 0xb\nboot 0\nonline 1\nfinalise\nonline 2\nonline 3\nend\n",
-            "cpuid sve\nvl 128\nvl 256\nend\n",
-            "vl 512",
-        ),
-        (
-            "armcaps 2\ncore 0\nid_aa64pfr0_el1 0x100000000\nsve_vl 0x3\ncore 1\nid_aa64pfr0_el1 0x100000000\nsve_vl 0x7\ncore 2\nid_aa64pfr0_el1 0x100000000\nsve_vl 0x1\ncore 3\nid_aa64pfr0_el1 0x100000000\nsve_vl 0xb\nboot 0\ncmdline arm64.nosve\nonline 1\nfinalise\nonline 2\nonline 3\nend\n",
-            "core 2 late\ncore 3 late\n",
-            "vl ",
-        ),
-        (
-            "armcaps 2\ncore 0\nid_aa64pfr0_el1 0x100000000\ncore 1\nid_aa64pfr0_el1 0x100000000\ncore 2\nid_aa64pfr0_el1 0x100000000\ncore 3\nid_aa64pfr0_el1 0x100000000\nboot 0\nonline 1\nfinalise\nonline 2\nonline 3\nend\n",
-            "core 2 late\ncore 3 late\n",
-            "vl ",
-        ),
-    ];
-    for (input, part, other) in cases {
-        let ran = run_on(rt.alloc(), "report", input.as_bytes())?;
-        assert_eq!(rt; ran.status, 0, "{input}");
-        assert!(rt; has(&ran.out, part), "{input}: {part}");
-        assert!(rt; !has(&ran.out, other), "{input}: {other}");
-    }
-    Ok(())
-}
-
 /// Documents, with their traces.
 #[test]
 fn traces(rt: HostRuntime) -> Result<(), Fail> {
@@ -498,55 +289,6 @@ fn traces(rt: HostRuntime) -> Result<(), Fail> {
     Ok(())
 }
 
-/// What a run leaves of its machine.
-#[test]
-fn leaves_machine(rt: HostRuntime) -> Result<(), Fail> {
-    let ran = run_on(rt.alloc(), "report", ONE_CORE.as_bytes())?;
-    let boot = &ran.machines[0];
-    assert_eq!(rt; ran.machines.len(), 1);
-    assert!(rt; boot.is_final());
-    assert_eq!(rt; boot.state(0), Some(CoreState::Admitted { late: false }));
-    let ran = run_on(rt.alloc(), "report", b"".as_slice())?;
-    assert_eq!(rt; ran.machines.len(), 0);
-    Ok(())
-}
-
-/// Each part of a text that stops short, and the number of the line where it does.
-#[test]
-fn cut_texts(rt: HostRuntime) -> Result<(), Fail> {
-    let text = ONE_CORE.as_bytes();
-    for size in 0..text.len() {
-        let mut line = 1;
-        for byte in &text[..size] {
-            if *byte == b'\n' {
-                line += 1;
-            }
-        }
-        let ran = run_on(rt.alloc(), "report", &text[..size])?;
-        let err = format!(in rt.alloc(); "armcaps: line {line}: kind 2 unfinished\n")?;
-        assert_eq!(rt; ran.status, 3, "{size}");
-        assert_eq!(rt; ran.err.as_slice(), err.as_bytes(), "{size}");
-    }
-    Ok(())
-}
-
-/// A text without an end of the greatest length, and of one byte more.
-#[test]
-fn long_texts(rt: HostRuntime) -> Result<(), Fail> {
-    let cases = [
-        (1_048_566, "armcaps: line 2: kind 2 unfinished\n"),
-        (1_048_567, "armcaps: line 2: kind 3 text-too-long\n"),
-    ];
-    for (count, err) in cases {
-        let mut input = b"armcaps 1\n".to_vec(rt.alloc())?;
-        input.resize(count + 10, b'#')?;
-        let ran = run_on(rt.alloc(), "report", &input)?;
-        assert_eq!(rt; ran.status, 3, "{count}");
-        assert_eq!(rt; ran.err.as_slice(), err.as_bytes(), "{count}");
-    }
-    Ok(())
-}
-
 /// An error stream without room changes no status.
 #[test]
 fn error_stream_without_room(rt: HostRuntime) -> Result<(), Fail> {
@@ -567,77 +309,55 @@ fn error_stream_without_room(rt: HostRuntime) -> Result<(), Fail> {
     Ok(())
 }
 
-/// What a run answers and writes over a source of one byte a call, of which the call of this number fails.
-fn run_failing_read(alloc: Global, call: u64) -> Result<Ran, Fail> {
-    let words = words(alloc, "report")?;
-    let mut input = MemSource::new(ONE_CORE.as_bytes().to_vec(alloc)?, 1, vec![in alloc; call]?);
-    let mut out = MemSink::new(alloc, 8192, 8192, Vec::new(alloc))?;
-    let mut err = MemSink::new(alloc, 4096, 4096, Vec::new(alloc))?;
-    let mut machines = Vec::new(alloc);
-    let status = run(alloc, &words, &mut input, &mut out, &mut err, &mut machines);
-    Ok(Ran {
-        status,
-        out: out.bytes().to_vec(alloc)?,
-        err: err.bytes().to_vec(alloc)?,
-        machines,
-    })
-}
-
-/// What a run answers and writes to a sink of seven bytes a call, of which the call of this number fails.
-fn run_failing_write(alloc: Global, call: u64) -> Result<Ran, Fail> {
-    let words = words(alloc, "report")?;
-    let mut input = SureSource::new(ONE_CORE.as_bytes().to_vec(alloc)?, 8);
-    let mut out = MemSink::new(alloc, 8192, 7, vec![in alloc; call]?)?;
-    let mut err = MemSink::new(alloc, 4096, 4096, Vec::new(alloc))?;
-    let mut machines = Vec::new(alloc);
-    let status = run(alloc, &words, &mut input, &mut out, &mut err, &mut machines);
-    Ok(Ran {
-        status,
-        out: out.bytes().to_vec(alloc)?,
-        err: err.bytes().to_vec(alloc)?,
-        machines,
-    })
-}
-
-/// Each read fails in turn.
+/// A source whose third call fails, and a sink whose fifth call does.
 #[test]
-fn failing_reads(rt: HostRuntime) -> Result<(), Fail> {
+fn faults(rt: HostRuntime) -> Result<(), Fail> {
     let alloc = rt.alloc();
-    for call in 1..64 {
-        let ran = run_failing_read(alloc, call)?;
-        assert_eq!(rt; ran.status, 4, "{call}");
-        assert_eq!(rt; ran.out.len(), 0, "{call}");
-        assert_eq!(rt;
-            ran.err.as_slice(),
-            b"armcaps: read fault\n".as_slice(),
-            "{call}"
-        );
-        assert_eq!(rt; ran.machines.len(), 0, "{call}");
-    }
-    let whole = run_failing_read(alloc, 100)?;
-    assert_eq!(rt; whole.status, 0);
-    assert_eq!(rt; whole.out.as_slice(), ONE_CORE_REPORT.as_bytes());
+    let words = words(alloc, "report")?;
+    let text = ONE_CORE.as_bytes();
+    let mut out = MemSink::new(alloc, 4096, 16, Vec::new(alloc))?;
+    let mut err = MemSink::new(alloc, 4096, 4096, Vec::new(alloc))?;
+    let mut failing = MemSource::new(text.to_vec(alloc)?, 8, vec![in alloc; 3]?);
+    let mut machines = Vec::new(alloc);
+    let status = run(
+        alloc,
+        &words,
+        &mut failing,
+        &mut out,
+        &mut err,
+        &mut machines,
+    );
+    assert_eq!(rt; status, 4);
+    assert_eq!(rt; out.bytes(), b"".as_slice());
+    assert_eq!(rt; err.bytes(), b"armcaps: read fault\n".as_slice());
+
+    let mut input = SureSource::new(text.to_vec(alloc)?, 8);
+    let mut full = MemSink::new(alloc, 4096, 16, vec![in alloc; 5]?)?;
+    let mut machines = Vec::new(alloc);
+    let status = run(
+        alloc,
+        &words,
+        &mut input,
+        &mut full,
+        &mut out,
+        &mut machines,
+    );
+    assert_eq!(rt; status, 5);
+    assert_eq!(rt; full.bytes(), &ONE_CORE_REPORT.as_bytes()[..64]);
+    assert_eq!(rt; out.bytes(), b"armcaps: write fault\n".as_slice());
     Ok(())
 }
 
-/// Each write fails in turn.
+/// What a run leaves of its machine: the one that it brought up, and none where the input is no document.
 #[test]
-fn failing_writes(rt: HostRuntime) -> Result<(), Fail> {
-    let report = ONE_CORE_REPORT.as_bytes();
-    let mut call = 1;
-    let mut written = 0;
-    while written < report.len() {
-        let ran = run_failing_write(rt.alloc(), call)?;
-        assert_eq!(rt; ran.status, 5, "{call}");
-        assert_eq!(rt; ran.out.as_slice(), &report[..written], "{call}");
-        assert_eq!(rt;
-            ran.err.as_slice(),
-            b"armcaps: write fault\n".as_slice(),
-            "{call}"
-        );
-        assert_eq!(rt; ran.machines.len(), 1, "{call}");
-        call += 1;
-        written += 7;
+fn leaves_machine(rt: HostRuntime) -> Result<(), Fail> {
+    let ran = run_on(rt.alloc(), "report", ONE_CORE.as_bytes())?;
+    assert_eq!(rt; ran.machines.len(), 1);
+    for boot in &ran.machines {
+        assert!(rt; boot.is_final());
+        assert_eq!(rt; boot.state(0), Some(CoreState::Admitted { late: false }));
     }
+    let ran = run_on(rt.alloc(), "report", b"".as_slice())?;
+    assert_eq!(rt; ran.machines.len(), 0);
     Ok(())
 }
