@@ -307,11 +307,26 @@ class CommandLines(unittest.TestCase):
         )
 
 
+class Statuses(unittest.TestCase):
+    """The kinds that docs/STATUSES.md tells of are those of the definitions, in their order."""
+
+    def test_kinds(self):
+        defined = []
+        for specs in ["armcaps_text/specs/Refusal.antt"]:
+            lines = (TOP / "crates" / specs).read_text(encoding="utf-8")
+            words = dict(re.findall(r'^kind_word (\S+) = codes "([a-z-]+)"', lines, re.MULTILINE))
+            numbers = re.findall(r"^kind_number (\S+) = (\d+)", lines, re.MULTILINE)
+            self.assertEqual(len(words), len(numbers))
+            defined += [(number, words[kind]) for kind, number in numbers]
+        page = (TOP / "docs/STATUSES.md").read_text(encoding="utf-8")
+        self.assertEqual(re.findall(r"^\| (\d+) \| `([a-z-]+)` \|", page, re.MULTILINE), defined)
+
+
 class Pages(unittest.TestCase):
     """A page that is off by one character is refused."""
 
     PAGE = "```console\n$ armcaps report < examples/one-core.txt | tail -n 2\n{0}\n{1}\n$ printf 'a b'\n{2}\n```\n"
-    RIGHT = ("user dczid_el0 0x0000000000000000", "end", "a b")
+    RIGHT = ("flags fp asimd aes pmull sha1 sha2 crc32 cpuid", "end", "a b")
 
     def check(self, *lines):
         with tempfile.NamedTemporaryFile("w", suffix=".md") as page:
