@@ -1,7 +1,7 @@
 # The program, its check, and an installed copy with its manual page, pages, tools and examples. All proving is done by `rt`.
 #
 #   make             proves the program and builds it: some minutes and up to 4 GB the first time, seconds after that
-#   make try         runs it on an example within some twenty seconds, before any proof
+#   make try         runs it on an example within some twenty seconds, before any proof; COMMAND and TEXT name another
 #   make check       the gate, and the checks of pages and tools after it
 #   make install     copies to DESTDIR and PREFIX; make uninstall removes what it copied
 PREFIX ?= /usr/local
@@ -13,9 +13,10 @@ DOCDIR ?= $(DATADIR)/doc/armcaps
 VERSION := $(shell cat VERSION)
 PROGRAM := crates/armcaps/out/armcaps
 TOOLS := dump2text explain cmdline-lint
-PAGES := $(wildcard docs/MACHINE-TEXT.md docs/OVERRIDES.md docs/REPORT.md docs/FIELDS.md docs/CAPABILITIES.md docs/HWCAPS.md \
-	docs/FROM-A-BOARD.md)
-EXAMPLES := $(wildcard examples/*.txt examples/*.report) examples/README.md
+PAGES := $(wildcard docs/MACHINE-TEXT.md docs/OVERRIDES.md docs/REPORT.md docs/TRACE.md docs/MRS.md docs/STATUSES.md \
+	docs/FIELDS.md docs/CAPABILITIES.md docs/HWCAPS.md docs/FROM-A-BOARD.md)
+EXAMPLES := $(wildcard examples/*.txt examples/*.report examples/*.trace examples/*.mrs examples/*.status examples/*.err) \
+	examples/README.md
 DUMPS := $(wildcard examples/dumps/*)
 MODULES := $(patsubst %,tools/armcaps_tools/%.py,__init__ profile text)
 TABLES := $(wildcard tools/data/*.tsv)
@@ -26,8 +27,11 @@ all:
 	cd crates/armcaps && rt run -- report < ../../examples/one-core.txt > /dev/null
 	@echo "built $(PROGRAM)"
 
+COMMAND := report
+TEXT := examples/late-core.txt
+
 try:
-	cd crates/armcaps && rt try -- report < ../../examples/big-little.txt
+	cd crates/armcaps && rt try -- $(COMMAND) < $(abspath $(TEXT))
 
 check:
 	.ci/run
