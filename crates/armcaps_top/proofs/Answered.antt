@@ -15,7 +15,7 @@ use Rattle.armcaps_text.specs.Document.{Reading}
 use Rattle.armcaps_text.specs.Sound.{IsSound}
 use Rattle.armcaps_top.specs.Bringing.{IsAt, board_in}
 use Rattle.armcaps_top.specs.Output.{board_of, output_after, output_of, unless_stopped}
-use Rattle.armcaps_top.specs.declared.commands.Command.{Command}
+use Rattle.armcaps_top.specs.declared.commands.Query.{Query}
 use Rattle.armcaps_top.specs.declared.ending.Ending.{Ending}
 
 pub history_is : (reading : Reading) (events : List Event) → events ≡ flat_map events_of reading.steps → reverse events ≡ history reading.steps
@@ -51,8 +51,8 @@ none_stopped : (halt : Option Halt) (output : Result (List ℕ) Ending) (text : 
 none_stopped None output text is = refl
 none_stopped (Some halt) output text is = cc
 
-pub goes_through : (command : Command) (board : Board) (steps : List Event) (text : List ℕ) → output_after command board steps ≡ Ok text → halt_of board steps ≡ None
-goes_through command board steps text is = none_stopped (halt_of board steps) (output_of command board steps) text is
+pub goes_through : (query : Query) (board : Board) (steps : List Event) (text : List ℕ) → output_after query board steps ≡ Ok text → halt_of board steps ≡ None
+goes_through query board steps text is = none_stopped (halt_of board steps) (output_of query board steps) text is
 
 pub if_ok : {X : Type 0} (result : Result X Ending) (P Q : X → Type 0) → ((x : X) → P x → Q x) → IfOk result P → IfOk result Q
 if_ok (Ok x) P Q law holds = law x holds

@@ -1,8 +1,10 @@
 pub mod Answered
 pub mod Brought
 pub mod DocumentFields
+pub mod Images
 pub mod Limits
 pub mod Outputs
+pub mod Performing
 pub mod Promising
 pub mod ShortNames
 pub mod SmallNumbers

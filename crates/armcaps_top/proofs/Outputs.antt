@@ -1,4 +1,4 @@
--- What commands write of a machine whose steps are all made.
+-- What querys write of a machine whose steps are all made.
 use Rattle.std.proofs.Common.{◌≡◌, ℕ, ◌<◌, ◌≤◌, ◌⊎◌, inl, inr, Bool, true, false, not, cond, List, length, Option, Some, None, refl, sym, ap, subst, ◌∙◌, arith}
 use Rattle.std.specs.Prelude.{Ok, Err, ◌==◌}
 use Rattle.std.proofs.lemmas.List.{get_or_past}
@@ -13,7 +13,16 @@ use Rattle.armcaps_boot.specs.Admission.{Board, halt_of, held_back, steps_made}
 use Rattle.armcaps_boot.specs.After.{IsAfter, past_from, state_from, state_of}
 use Rattle.armcaps_boot.specs.Causes.{stops_machine}
 use Rattle.armcaps_boot.specs.Facts.{Facts}
-use Rattle.armcaps_boot.specs.Findings.{findings_after, findings_of}
+use Rattle.armcaps_alt.specs.declared.patch_kind.PatchKind.{PatchKind}
+use Rattle.armcaps_alt.specs.declared.table_place.Layout.{Layout}
+use Rattle.armcaps_alt.specs.Names.{NameLists}
+use Rattle.armcaps_alt.specs.Refusals.{first_refusal}
+use Rattle.armcaps_boot.specs.Findings.{Findings, findings_after, findings_of}
+use Rattle.armcaps_alt.specs.Patched.{patched_image}
+use Rattle.armcaps_patch.specs.Kept.{Planned, StandsFor}
+use Rattle.armcaps_patch.specs.Features.{features_of, features_of_findings}
+use Rattle.armcaps_text.specs.Document.{Reading}
+use Rattle.armcaps_top.specs.Patch.{patch_output}
 use Rattle.armcaps_boot.specs.Order.{is_begun_last, is_complete, is_some_in_flight}
 use Rattle.armcaps_boot.specs.Steps.{is_final, last_step}
 use Rattle.armcaps_boot.specs.World.{World, state_at}
@@ -26,9 +35,9 @@ use Rattle.armcaps_mrs.specs.Reading.{user_read}
 use Rattle.armcaps_report.specs.Report.{report_of}
 use Rattle.armcaps_report.specs.Settled.{AreSettled, is_settled}
 use Rattle.armcaps_top.specs.Mrs.{read_line, read_refused_of}
-use Rattle.armcaps_top.specs.Output.{output_after}
-use Rattle.armcaps_top.specs.declared.commands.Command.TheVariants.{Report, Mrs}
-use Rattle.armcaps_top.specs.declared.ending.Ending.TheVariants.{NotRead}
+use Rattle.armcaps_top.specs.Output.{output_after, unless_stopped}
+use Rattle.armcaps_top.specs.declared.commands.Query.TheVariants.{Report, Mrs}
+use Rattle.armcaps_top.specs.declared.ending.Ending.TheVariants.{NotPatched, NotRead}
 use Rattle.armcaps_top.proofs.Steps.{made_whole}
 
 -- where no step stopped the machine, all are made
@@ -37,7 +46,7 @@ pub whole_after : (board : Board) (steps : List Event) (world : World) → halt_
 whole_after board steps world going made = subst (λ (s : List Event). IsAfter board s world) (made_whole board steps going) made
 
 -- what is found is what the steps come to
-findings_are : (board : Board) (steps : List Event) (world : World) → IsAfter board steps world → findings_of world ≡ findings_after board steps
+pub findings_are : (board : Board) (steps : List Event) (world : World) → IsAfter board steps world → findings_of world ≡ findings_after board steps
 findings_are board steps world after =
     let is = after.of_board in rw (is.cores, is.boot, is.overrides, after.states) refl
 
@@ -60,6 +69,24 @@ pub was_not_read : (board : Board) (steps : List Event) (world : World) (core wo
 was_not_read board steps world core word refused going made is =
     let found = sym (ap (λ f. user_read f core word) (findings_are board steps world (whole_after board steps world going made))) ∙ is in
     rw (going, found) refl
+
+-- entries none of which is refused
+pub entries_accepted : (board : Board) (steps : List Event) (reading : Reading) (names : NameLists) (image : List ℕ) (layout : Layout) (plan : Planned)
+    → halt_of board steps ≡ None → reading.layout ≡ layout → reading.names ≡ names
+    → StandsFor plan (features_of_findings (findings_after board steps) names) image layout
+    → unless_stopped (halt_of board steps) (patch_output board steps reading image)
+    ≡ Ok (patched_image (features_of_findings (findings_after board steps) names) image layout)
+entries_accepted board steps reading names image layout plan going same_layout same_names stands = rw (going, same_layout, same_names, stands.accepted) refl
+
+-- an entry that is refused
+pub entry_refused : (board : Board) (steps : List Event) (world : World) (reading : Reading) (names : NameLists) (image : List ℕ) (layout : Layout)
+    (entry : ℕ) (kind : PatchKind) → halt_of board steps ≡ None → IsAfter board (steps_made board steps) world → reading.layout ≡ layout
+    → reading.names ≡ names → first_refusal (features_of world names) image layout ≡ Some (record { entry = entry; kind = kind })
+    → unless_stopped (halt_of board steps) (patch_output board steps reading image) ≡ Err (NotPatched entry kind)
+entry_refused board steps world reading names image layout entry kind going made same_layout same_names is =
+    let found = sym (ap (λ (f : Findings). first_refusal (features_of_findings f names) image layout)
+    (findings_are board steps world (whole_after board steps world going made))) ∙ is in
+    rw (going, same_layout, same_names, found) refl
 
 by_stop : (stops : Bool) (cause : Cause) → ((c : Cause) → cond stops (HasPanicked cause) (Parked cause) ≡ HasPanicked c → ⊥)
     → is_settled (cond stops (HasPanicked cause) (Parked cause)) ≡ true

@@ -3,6 +3,7 @@ use Rattle.std.proofs.Common.{◌≡◌, ◌≢◌, ◌⊎◌, inl, inr, ℕ, �
 use Rattle.std.specs.Prelude.{Result, Ok, Err, IfSome, IsSome}
 use Rattle.std.specs.Option.{option_map}
 use Rattle.std.specs.Result.{IsOkAnd, IsErr}
+use Rattle.armcaps_alt.specs.declared.patch_kind.PatchKind.{PatchKind}
 use Rattle.armcaps_boot.specs.declared.halt.Halt.{Halt}
 use Rattle.armcaps_boot.specs.World.{World}
 use Rattle.armcaps_io.specs.Causes.{Rose}
@@ -11,12 +12,12 @@ use Rattle.armcaps_top.specs.Commands.{command_of}
 use Rattle.armcaps_top.specs.Document.{Document}
 use Rattle.armcaps_top.specs.Ending.{status_of}
 use Rattle.armcaps_top.specs.Inside.{Performs}
-use Rattle.armcaps_top.specs.Run.{Change, IsReadRefused, Promises, Reason, answer_for, answer_status, document_for, halt_in, written_of}
+use Rattle.armcaps_top.specs.Run.{Change, IsPatchRefused, IsReadRefused, Promises, Reason, answer_for, answer_status, document_for, halt_in, written_of}
 use Rattle.armcaps_top.specs.Telling.{Tells}
 use Rattle.armcaps_top.specs.declared.commands.Command.{Command}
 use Rattle.armcaps_top.specs.declared.commands.mrs.ReadRefused.{ReadRefused}
 use Rattle.armcaps_top.specs.declared.ending.Ending.{Ending}
-use Rattle.armcaps_top.specs.declared.ending.Ending.TheVariants.{Done, Usage, Refused, ReadFault, WriteFault, Memory, Panicked, NotRead}
+use Rattle.armcaps_top.specs.declared.ending.Ending.TheVariants.{Done, Usage, Refused, ReadFault, WriteFault, Memory, Panicked, NotPatched, NotRead}
 use Rattle.armcaps_top.specs.declared.refusal.Refusal.{Refusal}
 
 -- the endings of each status
@@ -28,6 +29,7 @@ done_of ReadFault is = absurd (omega (arith, is))
 done_of WriteFault is = absurd (omega (arith, is))
 done_of Memory is = absurd (omega (arith, is))
 done_of (Panicked halt) is = absurd (omega (arith, is))
+done_of (NotPatched entry kind) is = absurd (omega (arith, is))
 done_of (NotRead refused) is = absurd (omega (arith, is))
 
 usage_of : (ending : Ending) → status_of ending ≡ 2 → ending ≡ Usage
@@ -38,6 +40,7 @@ usage_of ReadFault is = absurd (omega (arith, is))
 usage_of WriteFault is = absurd (omega (arith, is))
 usage_of Memory is = absurd (omega (arith, is))
 usage_of (Panicked halt) is = absurd (omega (arith, is))
+usage_of (NotPatched entry kind) is = absurd (omega (arith, is))
 usage_of (NotRead refused) is = absurd (omega (arith, is))
 
 refused_of : (ending : Ending) → status_of ending ≡ 3 → (refusal : Refusal) × (ending ≡ Refused refusal)
@@ -48,6 +51,7 @@ refused_of ReadFault is = absurd (omega (arith, is))
 refused_of WriteFault is = absurd (omega (arith, is))
 refused_of Memory is = absurd (omega (arith, is))
 refused_of (Panicked halt) is = absurd (omega (arith, is))
+refused_of (NotPatched entry kind) is = absurd (omega (arith, is))
 refused_of (NotRead refused) is = absurd (omega (arith, is))
 
 read_fault_of : (ending : Ending) → status_of ending ≡ 4 → ending ≡ ReadFault
@@ -58,6 +62,7 @@ read_fault_of ReadFault is = refl
 read_fault_of WriteFault is = absurd (omega (arith, is))
 read_fault_of Memory is = absurd (omega (arith, is))
 read_fault_of (Panicked halt) is = absurd (omega (arith, is))
+read_fault_of (NotPatched entry kind) is = absurd (omega (arith, is))
 read_fault_of (NotRead refused) is = absurd (omega (arith, is))
 
 write_fault_of : (ending : Ending) → status_of ending ≡ 5 → ending ≡ WriteFault
@@ -68,6 +73,7 @@ write_fault_of ReadFault is = absurd (omega (arith, is))
 write_fault_of WriteFault is = refl
 write_fault_of Memory is = absurd (omega (arith, is))
 write_fault_of (Panicked halt) is = absurd (omega (arith, is))
+write_fault_of (NotPatched entry kind) is = absurd (omega (arith, is))
 write_fault_of (NotRead refused) is = absurd (omega (arith, is))
 
 panicked_of : (ending : Ending) → status_of ending ≡ 7 → (halt : Halt) × (ending ≡ Panicked halt)
@@ -78,6 +84,7 @@ panicked_of ReadFault is = absurd (omega (arith, is))
 panicked_of WriteFault is = absurd (omega (arith, is))
 panicked_of Memory is = absurd (omega (arith, is))
 panicked_of (Panicked halt) is = (halt, refl)
+panicked_of (NotPatched entry kind) is = absurd (omega (arith, is))
 panicked_of (NotRead refused) is = absurd (omega (arith, is))
 
 not_read_of : (ending : Ending) → status_of ending ≡ 9 → (refused : ReadRefused) × (ending ≡ NotRead refused)
@@ -88,17 +95,36 @@ not_read_of ReadFault is = absurd (omega (arith, is))
 not_read_of WriteFault is = absurd (omega (arith, is))
 not_read_of Memory is = absurd (omega (arith, is))
 not_read_of (Panicked halt) is = absurd (omega (arith, is))
+not_read_of (NotPatched entry kind) is = absurd (omega (arith, is))
 not_read_of (NotRead refused) is = (refused, refl)
 
-statuses : (ending : Ending) → (status_of ending ≡ 0) ⊎ ((2 ≤ status_of ending) × (status_of ending ≤ 7)) ⊎ (status_of ending ≡ 9)
+-- the entry and the kind of a refused entry
+record PatchEnding (ending : Ending) : Type 0 where
+  entry : ℕ
+  kind : PatchKind
+  is : ending ≡ NotPatched entry kind
+
+not_patched_of : (ending : Ending) → status_of ending ≡ 8 → PatchEnding ending
+not_patched_of Done is = absurd (omega (arith, is))
+not_patched_of Usage is = absurd (omega (arith, is))
+not_patched_of (Refused refusal) is = absurd (omega (arith, is))
+not_patched_of ReadFault is = absurd (omega (arith, is))
+not_patched_of WriteFault is = absurd (omega (arith, is))
+not_patched_of Memory is = absurd (omega (arith, is))
+not_patched_of (Panicked halt) is = absurd (omega (arith, is))
+not_patched_of (NotPatched entry kind) is = record { entry = entry; kind = kind; is = refl }
+not_patched_of (NotRead refused) is = absurd (omega (arith, is))
+
+statuses : (ending : Ending) → (status_of ending ≡ 0) ⊎ ((2 ≤ status_of ending) × (status_of ending ≤ 9))
 statuses Done = inl refl
-statuses Usage = inr (inl (lit≤ tt, lit≤ tt))
-statuses (Refused refusal) = inr (inl (lit≤ tt, lit≤ tt))
-statuses ReadFault = inr (inl (lit≤ tt, lit≤ tt))
-statuses WriteFault = inr (inl (lit≤ tt, lit≤ tt))
-statuses Memory = inr (inl (lit≤ tt, lit≤ tt))
-statuses (Panicked halt) = inr (inl (lit≤ tt, lit≤ tt))
-statuses (NotRead refused) = inr (inr refl)
+statuses Usage = inr (lit≤ tt, lit≤ tt)
+statuses (Refused refusal) = inr (lit≤ tt, lit≤ tt)
+statuses ReadFault = inr (lit≤ tt, lit≤ tt)
+statuses WriteFault = inr (lit≤ tt, lit≤ tt)
+statuses Memory = inr (lit≤ tt, lit≤ tt)
+statuses (Panicked halt) = inr (lit≤ tt, lit≤ tt)
+statuses (NotPatched entry kind) = inr (lit≤ tt, lit≤ tt)
+statuses (NotRead refused) = inr (lit≤ tt, lit≤ tt)
 
 -- facts that follow where the bytes are told
 if_some : {X : Type 0} (found : Option X) (P Q : X → Type 0) → ((x : X) → P x → Q x) → IfSome found P → IfSome found Q
@@ -129,20 +155,23 @@ all_stopped_status command None halt is = tt
 all_stopped_status command (Some found) halt is = stopped_status command found halt is
 
 -- the status of an ending that is the answer
-judged : (command : Command) (input out : Change) (ending : Ending) → ending ≢ Usage → Reason (Some command) input out ending
-    → status_of ending ≢ 4 → status_of ending ≢ 5 → status_of ending ≢ 6
-    → IfSome (answer_for (Some command) input.old) (λ answer. status_of ending ≡ answer_status answer)
-judged command input out Done form reason read write memory =
-    if_some (answer_for (Some command) input.old) (λ answer. IsOkAnd answer (Appends out.old out.new)) (λ answer. 0 ≡ answer_status answer)
+judged : (command : Command) (found : Option (Result Document Refusal)) (input out : Change) (ending : Ending) → ending ≢ Usage
+    → Reason (Some command) found input out ending → status_of ending ≢ 4 → status_of ending ≢ 5 → status_of ending ≢ 6
+    → IfSome (answer_for (Some command) found) (λ answer. status_of ending ≡ answer_status answer)
+judged command found input out Done form reason read write memory =
+    if_some (answer_for (Some command) found) (λ answer. IsOkAnd answer (Appends out.old out.new)) (λ answer. 0 ≡ answer_status answer)
     (λ answer. written answer (Appends out.old out.new)) reason.0
-judged command input out Usage form reason read write memory = absurd (form refl)
-judged command input out (Refused refusal) form reason read write memory = refused_status command (document_for (Some command) input.old) refusal reason
-judged command input out ReadFault form reason read write memory = absurd (read refl)
-judged command input out WriteFault form reason read write memory = absurd (write refl)
-judged command input out Memory form reason read write memory = absurd (memory refl)
-judged command input out (Panicked halt) form reason read write memory = all_stopped_status command (document_for (Some command) input.old) halt reason
-judged command input out (NotRead refused) form reason read write memory =
-    if_some (answer_for (Some command) input.old) (λ answer. answer ≡ Err (NotRead refused)) (λ answer. 9 ≡ answer_status answer)
+judged command found input out Usage form reason read write memory = absurd (form refl)
+judged command found input out (Refused refusal) form reason read write memory = refused_status command found refusal reason
+judged command found input out ReadFault form reason read write memory = absurd (read refl)
+judged command found input out WriteFault form reason read write memory = absurd (write refl)
+judged command found input out Memory form reason read write memory = absurd (memory refl)
+judged command found input out (Panicked halt) form reason read write memory = all_stopped_status command found halt reason
+judged command found input out (NotPatched entry kind) form reason read write memory =
+    if_some (answer_for (Some command) found) (λ answer. answer ≡ Err (NotPatched entry kind)) (λ answer. 8 ≡ answer_status answer)
+    (λ answer is. rw is refl) reason
+judged command found input out (NotRead refused) form reason read write memory =
+    if_some (answer_for (Some command) found) (λ answer. answer ≡ Err (NotRead refused)) (λ answer. 9 ≡ answer_status answer)
     (λ answer is. rw is refl) reason
 
 either : (answers : Option (Result (List ℕ) Ending)) (status : ℕ) → IfSome answers (λ answer. status ≡ answer_status answer)
@@ -155,30 +184,34 @@ always None = tt
 always (Some x) = tt
 
 -- where neither stream failed
-exact : (command : Command) (input out : Change) (ending : Ending) → ending ≢ Usage → Reason (Some command) input out ending
-    → (Rose input.before input.now → ⊥) → (Rose out.before out.now → ⊥)
-    → IfSome (answer_for (Some command) input.old) (λ answer. (status_of ending ≡ answer_status answer) ⊎ (status_of ending ≡ 6))
-exact command input out ReadFault form reason read write = absurd (read reason)
-exact command input out WriteFault form reason read write = absurd (write reason.0)
-exact command input out Memory form reason read write =
-    if_some (answer_for (Some command) input.old) (λ answer. Unit {0}) (λ answer. (6 ≡ answer_status answer) ⊎ (6 ≡ 6)) (λ answer is. inr refl)
-    (always (answer_for (Some command) input.old))
-exact command input out Done form reason read write =
-    either (answer_for (Some command) input.old) 0 (judged command input out Done form reason (λ e. omega (arith, e)) (λ e. omega (arith, e)) (λ e. omega (arith, e)))
-exact command input out Usage form reason read write = absurd (form refl)
-exact command input out (Refused refusal) form reason read write =
-    either (answer_for (Some command) input.old) 3 (judged command input out (Refused refusal) form reason (λ e. omega (arith, e)) (λ e. omega (arith, e)) (λ e. omega (arith, e)))
-exact command input out (Panicked halt) form reason read write =
-    either (answer_for (Some command) input.old) 7 (judged command input out (Panicked halt) form reason (λ e. omega (arith, e)) (λ e. omega (arith, e)) (λ e. omega (arith, e)))
-exact command input out (NotRead refused) form reason read write =
-    either (answer_for (Some command) input.old) 9 (judged command input out (NotRead refused) form reason (λ e. omega (arith, e)) (λ e. omega (arith, e)) (λ e. omega (arith, e)))
+exact : (command : Command) (found : Option (Result Document Refusal)) (input out : Change) (ending : Ending) → ending ≢ Usage
+    → Reason (Some command) found input out ending → (Rose input.before input.now → ⊥) → (Rose out.before out.now → ⊥)
+    → IfSome (answer_for (Some command) found) (λ answer. (status_of ending ≡ answer_status answer) ⊎ (status_of ending ≡ 6))
+exact command found input out ReadFault form reason read write = absurd (read reason)
+exact command found input out WriteFault form reason read write = absurd (write reason.0)
+exact command found input out Memory form reason read write =
+    if_some (answer_for (Some command) found) (λ answer. Unit {0}) (λ answer. (6 ≡ answer_status answer) ⊎ (6 ≡ 6)) (λ answer is. inr refl)
+    (always (answer_for (Some command) found))
+exact command found input out Usage form reason read write = absurd (form refl)
+exact command found input out Done form reason read write =
+    either (answer_for (Some command) found) 0 (judged command found input out Done form reason (λ e. omega (arith, e)) (λ e. omega (arith, e)) (λ e. omega (arith, e)))
+exact command found input out (Refused refusal) form reason read write =
+    either (answer_for (Some command) found) 3 (judged command found input out (Refused refusal) form reason (λ e. omega (arith, e)) (λ e. omega (arith, e)) (λ e. omega (arith, e)))
+exact command found input out (Panicked halt) form reason read write =
+    either (answer_for (Some command) found) 7 (judged command found input out (Panicked halt) form reason (λ e. omega (arith, e)) (λ e. omega (arith, e)) (λ e. omega (arith, e)))
+exact command found input out (NotPatched entry kind) form reason read write =
+    either (answer_for (Some command) found) 8 (judged command found input out (NotPatched entry kind) form reason (λ e. omega (arith, e)) (λ e. omega (arith, e)) (λ e. omega (arith, e)))
+exact command found input out (NotRead refused) form reason read write =
+    either (answer_for (Some command) found) 9 (judged command found input out (NotRead refused) form reason (λ e. omega (arith, e)) (λ e. omega (arith, e)) (λ e. omega (arith, e)))
 
 -- a run of a command
 pub promised : (words : List (List ℕ)) (command : Command) (input out err : Change) (machines : List World) (ending : Ending)
-    → command_of words ≡ Some command → Performs command input out machines ending → Tells ending err.old err.new err.before err.now
-    → Promises words input out err machines (status_of ending)
+    → command_of words ≡ Some command → Performs command (document_for (Some command) input.old) input out machines ending
+    → Tells ending err.old err.new err.before err.now → Promises words input out err machines (status_of ending)
 promised words command input out err machines ending is does told =
-    let at : (e : Ending) → ending ≡ e → Reason (Some command) input out e = λ e same. subst (λ (x : Ending). Reason (Some command) input out x) same does.reason in record {
+    let found : Option (Result Document Refusal) = document_for (Some command) input.old in
+    let at : (e : Ending) → ending ≡ e → Reason (Some command) found input out e =
+    λ e same. subst (λ (x : Ending). Reason (Some command) found input out x) same does.reason in record {
       ending = ending;
       status_is = refl;
       reason = rw is does.reason;
@@ -189,21 +222,25 @@ promised words command input out err machines ending is does told =
       safe = λ zero. rw is (does.safe (done_of ending zero));
       refused = λ three. rw is
           (let refusal = refused_of ending three in
-          if_some (document_for (Some command) input.old) (λ found. found ≡ Err refusal.0) IsErr (λ found same. rw same refl) (at (Refused refusal.0) refusal.1));
+          if_some found (λ one. one ≡ Err refusal.0) IsErr (λ one same. rw same refl) (at (Refused refusal.0) refusal.1));
       read_fault = λ four. at ReadFault (read_fault_of ending four);
       write_fault = λ five. rw is (at WriteFault (write_fault_of ending five));
       stopped = λ seven. rw is
           (let halt = panicked_of ending seven in
-          if_some (document_for (Some command) input.old) (λ found. IsOkAnd found (λ d. halt_in d ≡ Some halt.0)) (λ found. IsOkAnd found (λ d. IsSome (halt_in d)))
-          (λ found. if_ok_and found (λ d. halt_in d ≡ Some halt.0) (λ d. IsSome (halt_in d)) (λ d same. rw same refl)) (at (Panicked halt.0) halt.1));
+          if_some found (λ one. IsOkAnd one (λ d. halt_in d ≡ Some halt.0)) (λ one. IsOkAnd one (λ d. IsSome (halt_in d)))
+          (λ one. if_ok_and one (λ d. halt_in d ≡ Some halt.0) (λ d. IsSome (halt_in d)) (λ d same. rw same refl)) (at (Panicked halt.0) halt.1));
+      not_patched = λ eight. rw is
+          (let refused = not_patched_of ending eight in
+          if_some (answer_for (Some command) found) (λ answer. answer ≡ Err (NotPatched refused.entry refused.kind)) IsPatchRefused
+          (λ answer same. (refused.entry, (refused.kind, same))) (at (NotPatched refused.entry refused.kind) refused.is));
       not_read = λ nine. rw is
           (let refused = not_read_of ending nine in
-          if_some (answer_for (Some command) input.old) (λ answer. answer ≡ Err (NotRead refused.0)) IsReadRefused (λ answer same. (refused.0, same)) (at (NotRead refused.0) refused.1));
+          if_some (answer_for (Some command) found) (λ answer. answer ≡ Err (NotRead refused.0)) IsReadRefused (λ answer same. (refused.0, same)) (at (NotRead refused.0) refused.1));
       silent = λ zero five. does.silent (λ same. zero (ap status_of same)) (λ same. five (ap status_of same));
       machine = λ has. rw is (does.machine has);
       no_machine = λ two four. does.no_machine four (λ same. omega (arith, two, ap status_of same));
-      judged = λ read write memory. rw is (judged command input out ending does.form does.reason read write memory);
-      exact = λ read write. rw is (exact command input out ending does.form does.reason read write);
+      judged = λ read write memory. rw is (judged command found input out ending does.form does.reason read write memory);
+      exact = λ read write. rw is (exact command found input out ending does.form does.reason read write);
       statuses = statuses ending;
     }
 
@@ -229,11 +266,12 @@ promised_nothing words input out err machines is same_input same_out none told =
       read_fault = λ four. absurd (omega (arith, four));
       write_fault = λ five. absurd (omega (arith, five));
       stopped = λ seven. absurd (omega (arith, seven));
+      not_patched = λ eight. absurd (omega (arith, eight));
       not_read = λ nine. absurd (omega (arith, nine));
       silent = λ zero five. subst (λ (b : Option (List ℕ)). Keeps out.old b) (sym same_out) (keeps out.old);
       machine = λ has. absurd (let no : ⊥ = cc in no);
       no_machine = λ two four. none;
       judged = λ read write memory. rw is refl;
       exact = λ read write. rw is (inl refl);
-      statuses = inr (inl (lit≤ tt, lit≤ tt));
+      statuses = inr (lit≤ tt, lit≤ tt);
     }

@@ -4,7 +4,8 @@ use Rattle.std.specs.List.{starts_with}
 use Rattle.std.specs.Str.{bytes_eq}
 use Rattle.armcaps_lex.specs.Digits.{digits_number}
 use Rattle.armcaps_top.specs.declared.commands.Command.{Command}
-use Rattle.armcaps_top.specs.declared.commands.Command.TheVariants.{Report, Mrs, Trace}
+use Rattle.armcaps_top.specs.declared.commands.Command.TheVariants.{Ask, Patch}
+use Rattle.armcaps_top.specs.declared.commands.Query.TheVariants.{Report, Mrs, Trace}
 
 -- the number of a core: 1 to 9 decimal digits
 abbrev pub core_number : List ℕ → Option ℕ
@@ -17,21 +18,23 @@ instruction_word text =
 
 -- `mrs` of this core and instruction, where both are written as they should be
 abbrev pub mrs_of : Option ℕ → Option ℕ → Option Command
-mrs_of (Some core) (Some word) = Some (Mrs core word)
+mrs_of (Some core) (Some word) = Some (Ask (Mrs core word))
 mrs_of None word = None
 mrs_of (Some core) None = None
 
 -- the command of one word
 abbrev pub command_named : List ℕ → Option Command
 command_named name =
-    if bytes_eq name (codes "report") then Some Report else if bytes_eq name (codes "trace") then Some Trace else None
+    if bytes_eq name (codes "report") then Some (Ask Report)
+    else if bytes_eq name (codes "patch") then Some Patch
+    else if bytes_eq name (codes "trace") then Some (Ask Trace) else None
 
 -- the command of a name and two arguments
 abbrev pub command_of_two : List ℕ → List ℕ → List ℕ → Option Command
 command_of_two name first second =
     if bytes_eq name (codes "mrs") then mrs_of (core_number first) (instruction_word second) else None
 
--- the command that words are a form of: `report`, `mrs CORE WORD` or `trace`
+-- the command that words are a form of: `report`, `patch`, `mrs CORE WORD` or `trace`
 unfoldable pub command_of : List (List ℕ) → Option Command
 command_of [] = None
 command_of (name ∷ []) = command_named name

@@ -7,12 +7,13 @@ use Rattle.armcaps_boot.specs.World.{World}
 use Rattle.armcaps_boot.specs.Outcome.{IsSafe}
 use Rattle.armcaps_io.specs.Causes.{Rose}
 use Rattle.armcaps_io.specs.Streams.{Keeps}
-use Rattle.armcaps_top.specs.Document.{document}
+use Rattle.armcaps_top.specs.Document.{Document, document}
 use Rattle.armcaps_top.specs.Ending.{status_of}
 use Rattle.armcaps_top.specs.Output.{board_of}
 use Rattle.armcaps_top.specs.Run.{Change, IsDocumentAnd, LeavesMachine, Reason, has_machine, steps_of}
 use Rattle.armcaps_top.specs.declared.commands.Command.{Command}
 use Rattle.armcaps_top.specs.declared.ending.Ending.{Ending}
+use Rattle.armcaps_top.specs.declared.refusal.Refusal.{Refusal}
 use Rattle.armcaps_top.specs.declared.ending.Ending.TheVariants.{Done, Usage, Refused, ReadFault, WriteFault, Memory}
 
 -- the source failed, or there was no memory
@@ -45,11 +46,11 @@ LeavesAfter board steps [] = ⊥
 LeavesAfter board steps (world ∷ []) = IsAfter board (steps_made board steps) world
 LeavesAfter board steps (world ∷ next ∷ more) = ⊥
 
--- what a command does that ends so
-pub record Performs (command : Command) (input out : Change) (machines : List World) (ending : Ending) : Type 0 where
+-- what a command that works on this does that ends so
+pub record Performs (command : Command) (found : Option (Result Document Refusal)) (input out : Change) (machines : List World) (ending : Ending) : Type 0 where
   pub form : ending ≢ Usage
-  pub reason : Reason (Some command) input out ending
-  pub safe : ending ≡ Done → IsDocumentAnd (Some command) input (λ found. IsSafe (board_of found.reading) (steps_of found))
+  pub reason : Reason (Some command) found input out ending
+  pub safe : ending ≡ Done → IsDocumentAnd found (λ one. IsSafe (board_of one.reading) (steps_of one))
   pub silent : ending ≢ Done → ending ≢ WriteFault → Keeps out.old out.new
-  pub machine : has_machine (status_of ending) ≡ true → LeavesMachine (Some command) input machines
+  pub machine : has_machine (status_of ending) ≡ true → LeavesMachine found machines
   pub no_machine : status_of ending ≤ 4 → ending ≢ Done → machines ≡ []

@@ -2,6 +2,7 @@ pub mod Document
 pub mod Commands
 pub mod Mrs
 pub mod Trace
+pub mod Patch
 pub mod Output
 pub mod Ending
 pub mod Telling

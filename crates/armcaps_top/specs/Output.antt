@@ -9,8 +9,8 @@ use Rattle.armcaps_report.specs.Report.{report_of}
 use Rattle.armcaps_text.specs.Document.{Reading}
 use Rattle.armcaps_top.specs.Mrs.{read_output}
 use Rattle.armcaps_top.specs.Trace.{trace_of}
-use Rattle.armcaps_top.specs.declared.commands.Command.{Command}
-use Rattle.armcaps_top.specs.declared.commands.Command.TheVariants.{Report, Mrs, Trace}
+use Rattle.armcaps_top.specs.declared.commands.Query.{Query}
+use Rattle.armcaps_top.specs.declared.commands.Query.TheVariants.{Report, Mrs, Trace}
 use Rattle.armcaps_top.specs.declared.commands.mrs.ReadRefused.{ReadRefused}
 use Rattle.armcaps_top.specs.declared.ending.Ending.{Ending}
 use Rattle.armcaps_top.specs.declared.ending.Ending.TheVariants.{Panicked, NotRead}
@@ -24,8 +24,8 @@ abbrev pub read_or_not : Result (List ℕ) ReadRefused → Result (List ℕ) End
 read_or_not (Ok output) = Ok output
 read_or_not (Err refused) = Err (NotRead refused)
 
--- what a command writes where no step stops the machine
-abbrev pub output_of : Command → Board → List Event → Result (List ℕ) Ending
+-- what a query writes where no step stops the machine
+abbrev pub output_of : Query → Board → List Event → Result (List ℕ) Ending
 output_of Report board steps = Ok (report_of (findings_after board steps))
 output_of (Mrs core word) board steps = read_or_not (read_output core word (user_read (findings_after board steps) core word))
 output_of Trace board steps = Ok (trace_of board steps)
@@ -35,6 +35,6 @@ abbrev pub unless_stopped : Option Halt → Result (List ℕ) Ending → Result 
 unless_stopped None output = output
 unless_stopped (Some halt) output = Err (Panicked halt)
 
--- what a command writes of the steps of a board, the newest first
-abbrev pub output_after : Command → Board → List Event → Result (List ℕ) Ending
-output_after command board steps = unless_stopped (halt_of board steps) (output_of command board steps)
+-- what a query writes of the steps of a board, the newest first
+abbrev pub output_after : Query → Board → List Event → Result (List ℕ) Ending
+output_after query board steps = unless_stopped (halt_of board steps) (output_of query board steps)

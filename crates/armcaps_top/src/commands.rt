@@ -10,6 +10,7 @@ ghost use Rattle.armcaps_top.specs.Output.{output_after};
 ghost use Rattle.armcaps_top.specs.Commands.{command_named, command_of, command_of_two, core_number, instruction_word};
 
 pub mod mrs;
+pub mod patch;
 pub mod report;
 pub mod trace;
 
@@ -18,15 +19,24 @@ use armcaps_boot::{Boot, Event};
 use armcaps_lex::{decimal, hexadecimal};
 use std::alloc::Global;
 
-/// What the program is asked for.
+/// What is asked of a machine alone.
 #[derive(Clone, Copy)]
-pub enum Command {
-    /// The report of the machine.
+pub enum Query {
+    /// Its report.
     Report,
     /// What a program on this core reads by this instruction.
     Mrs { core: u32, word: u32 },
     /// What came of each step.
     Trace,
+}
+
+/// What the program is asked for.
+#[derive(Clone, Copy)]
+pub enum Command {
+    /// An answer from the machine alone.
+    Ask(Query),
+    /// The image, patched for the machine.
+    Patch,
 }
 
 impl Command {
@@ -41,9 +51,11 @@ impl Command {
             _ => None,
         }
     }
+}
 
-    /// Makes the steps in their order up to one that stops the machine, and makes what the command writes, or says how the
-    /// run ends.
+impl Query {
+    /// Makes the steps in their order up to one that stops the machine, and makes what is written, or says how the run
+    /// ends.
     pub fn output(self, alloc: Global, boot: &mut Boot, events: &[Event]) -> Result<String, Ending>
         requires begins { IsAt 0 events.now (board_in boot.old) boot.old }
         requires complete { is_complete (length boot.old.cores) (reverse events.now) ≡ true }
@@ -52,9 +64,9 @@ impl Command {
         ensures machine { result ≢ Err Ending.Memory → IsAfter (board_in boot.old) (steps_made (board_in boot.old) (reverse events.now)) boot.new }
     {
         match self {
-            Command::Report => report::report_output(alloc, boot, events),
-            Command::Mrs { core, word } => mrs::read_output(alloc, core, word, boot, events),
-            Command::Trace => trace::trace_output(alloc, boot, events),
+            Query::Report => report::report_output(alloc, boot, events),
+            Query::Mrs { core, word } => mrs::read_output(alloc, core, word, boot, events),
+            Query::Trace => trace::trace_output(alloc, boot, events),
         }
     }
 }
@@ -64,9 +76,11 @@ fn command_named(name: &str) -> Option<Command>
     ensures { result ≡ command_named name.now }
 {
     if name == "report" {
-        Some(Command::Report)
+        Some(Command::Ask(Query::Report))
+    } else if name == "patch" {
+        Some(Command::Patch)
     } else if name == "trace" {
-        Some(Command::Trace)
+        Some(Command::Ask(Query::Trace))
     } else {
         None
     }
@@ -81,7 +95,7 @@ fn command_of_two(name: &str, first: &str, second: &str) -> Option<Command>
     }
     let core = core_number(first.as_bytes())?;
     let word = instruction_word(second.as_bytes())?;
-    Some(Command::Mrs { core, word })
+    Some(Command::Ask(Query::Mrs { core, word }))
 }
 
 // The number of a core: 1 to 9 decimal digits.

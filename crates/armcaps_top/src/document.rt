@@ -1,6 +1,6 @@
 //! What an input is.
 
-ghost use Rattle.std.specs.Prelude.{◌≡◌, ◌≤◌, IfOk, IfErr, Ok, Some, drop, length};
+ghost use Rattle.std.specs.Prelude.{◌≡◌, ◌≤◌, ◌+◌, IfOk, IfErr, Ok, Some, drop, length};
 ghost use Rattle.armcaps_text.specs.Document.{reading_of};
 ghost use Rattle.armcaps_text.specs.Formats.{format_of};
 ghost use Rattle.armcaps_text.specs.Sound.{IsSound};
@@ -31,11 +31,12 @@ fn image_refusal(image: u32, given: usize) -> Option<Refusal>
 }
 
 /// The machine of a document and the place where its image begins, or else why the input is no document.
-#[tactic(auto, unfolding(crate::specs::Document::document))]
+#[tactic(auto, unfolding(crate::specs::Document::document), using(crate::proofs::Images::image_whole))]
 pub fn machine_of(alloc: Global, bytes: &[u8]) -> Result<(Machine, usize), Ending>
     requires { length bytes.now ≤ (format_of bytes.now).input }
     ensures document { IfOk result (λ read. document bytes.now ≡ Ok (record { reading = reading_of read.0; image = drop read.1 bytes.now })) }
     ensures sound { IfOk result (λ read. IsSound (reading_of read.0)) }
+    ensures whole { IfOk result (λ read. read.1 + read.0.image ≡ length bytes.now) }
     ensures refused { IfErr result (λ ending. IsRefusedSo (Some bytes.now) ending) }
 {
     let (machine, place) = match Machine::read(alloc, bytes) {

@@ -4,6 +4,7 @@ ghost use Rattle.std.specs.Prelude.{◌≡◌};
 
 use crate::commands::mrs::ReadRefused;
 use crate::refusal::Refusal;
+use armcaps_alt::PatchKind;
 use armcaps_boot::Halt;
 
 /// How a run ends.
@@ -23,6 +24,8 @@ pub enum Ending {
     Memory,
     /// A step stopped the machine.
     Panicked(Halt),
+    /// This entry of the table is the first that is refused, for this kind.
+    NotPatched { entry: u32, kind: PatchKind },
     /// A program reads nothing there.
     NotRead(ReadRefused),
 }
@@ -42,6 +45,7 @@ impl Ending {
             Ending::WriteFault => 5,
             Ending::Memory => 6,
             Ending::Panicked(_) => 7,
+            Ending::NotPatched { .. } => 8,
             Ending::NotRead(_) => 9,
         }
     }

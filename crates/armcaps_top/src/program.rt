@@ -1,18 +1,26 @@
 //! The program's one call.
 
-ghost use Rattle.std.specs.Prelude.{◌≡◌, ◌≢◌, ℕ, [], ◌∷◌, Ok, Err, None, IfOk, IfErr, map, string_bytes};
+ghost use Rattle.std.specs.Prelude.{◌≡◌, ◌≢◌, ℕ, [], ◌∷◌, Ok, Err, None, IfOk, IfErr, ◌≤◌, drop, length, map, string_bytes};
 ghost use Rattle.armcaps_boot.specs.After.{IsAfter};
-ghost use Rattle.armcaps_boot.specs.Admission.{steps_made};
+ghost use Rattle.armcaps_boot.specs.Admission.{halt_of, steps_made};
+ghost use Rattle.armcaps_boot.specs.Findings.{findings_after};
+ghost use Rattle.armcaps_alt.specs.Patched.{patched_image};
+ghost use Rattle.armcaps_patch.specs.Features.{features_of_findings};
+ghost use Rattle.armcaps_patch.specs.Kept.{StandsFor};
 ghost use Rattle.armcaps_boot.specs.Outcome.{IsSafe};
 ghost use Rattle.armcaps_boot.specs.Steps.{history};
 ghost use Rattle.armcaps_boot.specs.World.{World};
 ghost use Rattle.armcaps_text.specs.Document.{reading_of};
 ghost use Rattle.armcaps_text.specs.Sound.{IsSound};
 ghost use Rattle.armcaps_top.specs.Inside.{IsInstead, LeavesAfter, Performs};
-ghost use Rattle.armcaps_top.specs.Output.{board_of, output_after};
+ghost use Rattle.armcaps_top.specs.Output.{board_of, output_after, unless_stopped};
+ghost use Rattle.armcaps_top.specs.Patch.{patch_output};
+ghost use Rattle.armcaps_top.specs.Document.{document};
+ghost use Rattle.std.specs.Option.{option_map};
 ghost use Rattle.armcaps_top.specs.Run.{Promises};
 
-use crate::commands::Command;
+use crate::commands::patch::patch_plan;
+use crate::commands::{Command, Query};
 use crate::document::machine_of;
 use crate::ending::Ending;
 use crate::reading::read_input;
@@ -20,20 +28,21 @@ use crate::telling::tell;
 use armcaps_boot::laws::{documents_are_safe, machines_begin_with_no_step};
 use armcaps_boot::{Boot, events_of};
 use armcaps_io::{Sink, Source, write_whole};
+use armcaps_patch::Plan;
 use armcaps_text::Machine;
 use std::alloc::Global;
 
-// Brings up a machine, leaves it in `machines`, and makes what the command writes of it, or says how the run ends.
+// Brings up a machine, leaves it in `machines`, and makes what is written of it, or says how the run ends.
 fn answer(
     alloc: Global,
-    command: Command,
+    query: Query,
     machine: Machine,
     machines: &mut Vec<Boot>,
 ) -> Result<String, Ending>
     requires sound { IsSound (reading_of machine) }
     requires none { machines.old.items ≡ [] }
-    ensures output { IfOk result (λ text. output_after command (board_of (reading_of machine)) (history machine.steps.items) ≡ Ok (string_bytes text)) }
-    ensures instead { IfErr result (IsInstead (output_after command (board_of (reading_of machine)) (history machine.steps.items))) }
+    ensures output { IfOk result (λ text. output_after query (board_of (reading_of machine)) (history machine.steps.items) ≡ Ok (string_bytes text)) }
+    ensures instead { IfErr result (IsInstead (output_after query (board_of (reading_of machine)) (history machine.steps.items))) }
     ensures machine { result ≢ Err Ending.Memory → LeavesAfter (board_of (reading_of machine)) (history machine.steps.items) machines.new.items }
     ensures safe { IfOk result (λ text. IsSafe (board_of (reading_of machine)) (history machine.steps.items)) }
 {
@@ -45,23 +54,67 @@ fn answer(
     };
     machines_begin_with_no_step();
     documents_are_safe();
-    let output = command.output(alloc, &mut boot, &events);
+    let output = query.output(alloc, &mut boot, &events);
     if machines.push(boot).is_err() {
         return Err(Ending::Memory);
     }
     output
 }
 
-// Reads a document, brings its machine up, and writes what the command writes of it.
-fn perform<S: Source, O: Sink>(
+// Brings up a machine, leaves it in `machines`, and plans its patched image, or says how the run ends.
+fn plan(
     alloc: Global,
-    command: Command,
+    machine: Machine,
+    image: &[u8],
+    machines: &mut Vec<Boot>,
+) -> Result<Plan, Ending>
+    requires sound { IsSound (reading_of machine) }
+    requires none { machines.old.items ≡ [] }
+    requires image { length image.now ≡ machine.image }
+    ensures going { IfOk result (λ plan. halt_of (board_of (reading_of machine)) (history machine.steps.items) ≡ None) }
+    ensures plan { IfOk result (λ plan. StandsFor plan
+        (features_of_findings (findings_after (board_of (reading_of machine)) (history machine.steps.items)) machine.names) image.now machine.layout) }
+    ensures output { IfOk result (λ plan. unless_stopped (halt_of (board_of (reading_of machine)) (history machine.steps.items))
+        (patch_output (board_of (reading_of machine)) (history machine.steps.items) (reading_of machine) image.now)
+        ≡ Ok (patched_image (features_of_findings (findings_after (board_of (reading_of machine)) (history machine.steps.items)) machine.names)
+        image.now machine.layout)) }
+    ensures instead { IfErr result (IsInstead (unless_stopped (halt_of (board_of (reading_of machine)) (history machine.steps.items))
+        (patch_output (board_of (reading_of machine)) (history machine.steps.items) (reading_of machine) image.now))) }
+    ensures machine { result ≢ Err Ending.Memory → LeavesAfter (board_of (reading_of machine)) (history machine.steps.items) machines.new.items }
+    ensures safe { IfOk result (λ plan. IsSafe (board_of (reading_of machine)) (history machine.steps.items)) }
+{
+    let Ok(events) = events_of(alloc, &machine.steps) else {
+        return Err(Ending::Memory);
+    };
+    let Ok(mut boot) = Boot::new(alloc, machine.cores, machine.boot, machine.overrides) else {
+        return Err(Ending::Memory);
+    };
+    machines_begin_with_no_step();
+    documents_are_safe();
+    let plan = patch_plan(
+        alloc,
+        &mut boot,
+        &events,
+        image,
+        machine.layout,
+        &machine.names,
+    );
+    if machines.push(boot).is_err() {
+        return Err(Ending::Memory);
+    }
+    plan
+}
+
+// Reads a document, brings its machine up, and writes what is asked of it.
+fn answer_query<S: Source, O: Sink>(
+    alloc: Global,
+    query: Query,
     input: &mut S,
     out: &mut O,
     machines: &mut Vec<Boot>,
 ) -> Ending
     requires { machines.old.items ≡ [] }
-    ensures { Performs command
+    ensures { Performs (Command.Ask query) (option_map document (S.left input.old))
         (record { old = S.left input.old; new = S.left input.new; before = S.faults input.old; now = S.faults input.new })
         (record { old = O.held out.old; new = O.held out.new; before = O.faults out.old; now = O.faults out.new })
         machines.new.items result }
@@ -74,7 +127,7 @@ fn perform<S: Source, O: Sink>(
         Ok((machine, _)) => machine,
         Err(ending) => return ending,
     };
-    let text = match answer(alloc, command, machine, machines) {
+    let text = match answer(alloc, query, machine, machines) {
         Ok(text) => text,
         Err(ending) => return ending,
     };
@@ -84,10 +137,50 @@ fn perform<S: Source, O: Sink>(
     }
 }
 
-/// Runs the program: `words` is the command line without the program's name. Where they are `report`, `mrs CORE WORD` or
-/// `trace`, reads a document from `input`, makes its steps and writes to `out` the report, what a program on the core reads by the
-/// instruction, or the trace of the steps. Every other status than 0 has a line on `err`. `machines` has to be empty, and gets the
-/// machine that was brought up: one in the statuses 0, 5, 7 and 9, and none in 2 to 4.
+// The bytes from a place on.
+fn bytes_from(bytes: &[u8], place: usize) -> &[u8]
+    requires { place ≤ length bytes.now }
+    ensures { result.now ≡ drop place bytes.now }
+{
+    &bytes[place..]
+}
+
+// Reads a document, brings its machine up, and writes its image, patched for the machine.
+fn patch_image<S: Source, O: Sink>(
+    alloc: Global,
+    input: &mut S,
+    out: &mut O,
+    machines: &mut Vec<Boot>,
+) -> Ending
+    requires { machines.old.items ≡ [] }
+    ensures { Performs Command.Patch (option_map document (S.left input.old))
+        (record { old = S.left input.old; new = S.left input.new; before = S.faults input.old; now = S.faults input.new })
+        (record { old = O.held out.old; new = O.held out.new; before = O.faults out.old; now = O.faults out.new })
+        machines.new.items result }
+{
+    let bytes = match read_input(alloc, input) {
+        Ok(bytes) => bytes,
+        Err(ending) => return ending,
+    };
+    let (machine, place) = match machine_of(alloc, &bytes) {
+        Ok(read) => read,
+        Err(ending) => return ending,
+    };
+    let image = bytes_from(&bytes, place);
+    let plan = match plan(alloc, machine, image, machines) {
+        Ok(plan) => plan,
+        Err(ending) => return ending,
+    };
+    match plan.write(image, out) {
+        Ok(()) => Ending::Done,
+        Err(_) => Ending::WriteFault,
+    }
+}
+
+/// Runs the program: `words` is the command line without the program's name. Where they are `report`, `patch`,
+/// `mrs CORE WORD` or `trace`, reads a document from `input`, makes its steps and writes to `out` the report, the image patched for
+/// the machine, what a program on the core reads by the instruction, or the trace of the steps. Every other status than 0 has a line on `err`. `machines` has to be empty, and gets the
+/// machine that was brought up: one in the statuses 0, 5 and 7 to 9, and none in 2 to 4.
 ///
 /// - 0: done.
 /// - 2: the words are no form. They are judged without memory, and nothing is read.
@@ -97,6 +190,7 @@ fn perform<S: Source, O: Sink>(
 /// - 5: `out` failed, and has a first part of the output.
 /// - 6: there was no memory, before the first byte to `out`.
 /// - 7: a step stops the machine.
+/// - 8: an entry of the table of alternatives is refused.
 /// - 9: the core of `mrs` is not admitted, or its word reads no register.
 pub fn run<S: Source, O: Sink, E: Sink>(
     alloc: Global,
@@ -114,7 +208,8 @@ pub fn run<S: Source, O: Sink, E: Sink>(
         machines.new.items result }
 {
     let ending = match Command::of(words) {
-        Some(command) => perform(alloc, command, input, out, machines),
+        Some(Command::Ask(query)) => answer_query(alloc, query, input, out, machines),
+        Some(Command::Patch) => patch_image(alloc, input, out, machines),
         None => Ending::Usage,
     };
     tell(err, ending);

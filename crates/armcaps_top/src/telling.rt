@@ -13,6 +13,8 @@ ghost use Rattle.armcaps_text.specs.declared.kind.TextKind.{TextKind};
 ghost use Rattle.armcaps_top.specs.Document.{refused_text};
 ghost use Rattle.armcaps_top.specs.Ending.{ending_text, halt_text};
 ghost use Rattle.armcaps_top.specs.Mrs.{eight_digits, read_refused_text};
+ghost use Rattle.armcaps_alt.specs.declared.patch_kind.PatchKind.{PatchKind};
+ghost use Rattle.armcaps_top.specs.Patch.{entry_text};
 ghost use Rattle.armcaps_top.specs.Telling.{Tells};
 ghost use Rattle.armcaps_top.specs.declared.commands.mrs.ReadRefused.TheVariants as read_refused;
 ghost use Rattle.armcaps_top.specs.declared.refusal.Refusal.TheVariants as Refusal;
@@ -20,6 +22,7 @@ ghost use Rattle.armcaps_top.specs.declared.refusal.Refusal.TheVariants as Refus
 use crate::commands::mrs::ReadRefused;
 use crate::ending::Ending;
 use crate::refusal::Refusal;
+use armcaps_alt::PatchKind;
 use armcaps_boot::{Cause, Halt};
 use armcaps_caps::cap;
 use armcaps_hwcap::hw_row;
@@ -270,6 +273,31 @@ fn add_not_read(line: &mut ArrayString<256>, unread: ReadRefused)
     add_read_refused(line, unread);
 }
 
+// Adds which entry of a table is refused, and why.
+#[tactic(auto, unfolding(crate::specs::Patch::entry_text))]
+fn add_entry(line: &mut ArrayString<256>, entry: u32, kind: PatchKind)
+    requires { array_string_len line.old + 123 ≤ 256 }
+    ensures text { line.new.bytes ≡ line.old.bytes ++ entry_text entry kind }
+    ensures room { array_string_len line.new ≤ array_string_len line.old + 123 }
+{
+    line.push_str("entry ");
+    add_number(line, u64::from(entry));
+    line.push_str(": kind ");
+    add_number(line, u64::from(kind.number()));
+    line.push_str(" ");
+    line.push_str(kind.word());
+}
+
+// Adds why there is no patched image.
+fn add_not_patched(line: &mut ArrayString<256>, entry: u32, kind: PatchKind)
+    requires { array_string_len line.old + 130 ≤ 256 }
+    ensures text { line.new.bytes ≡ line.old.bytes ++ (codes "patch: " ++ entry_text entry kind) }
+    ensures room { array_string_len line.new ≤ array_string_len line.old + 130 }
+{
+    line.push_str("patch: ");
+    add_entry(line, entry, kind);
+}
+
 // Adds an ending's text.
 #[tactic(auto, unfolding(crate::specs::Ending::ending_text))]
 fn add_text(line: &mut ArrayString<256>, ending: Ending)
@@ -279,12 +307,13 @@ fn add_text(line: &mut ArrayString<256>, ending: Ending)
 {
     match ending {
         Ending::Done => {}
-        Ending::Usage => line.push_str("usage: armcaps report | mrs CORE WORD | trace"),
+        Ending::Usage => line.push_str("usage: armcaps report | patch | mrs CORE WORD | trace"),
         Ending::Refused(refusal) => add_refusal(line, refusal),
         Ending::ReadFault => line.push_str("read fault"),
         Ending::WriteFault => line.push_str("write fault"),
         Ending::Memory => line.push_str("want of memory"),
         Ending::Panicked(halt) => add_panic(line, halt),
+        Ending::NotPatched { entry, kind } => add_not_patched(line, entry, kind),
         Ending::NotRead(unread) => add_not_read(line, unread),
     }
 }

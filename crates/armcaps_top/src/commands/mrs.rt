@@ -8,7 +8,7 @@ ghost use Rattle.armcaps_top.specs.Bringing.{IsAt, board_in};
 ghost use Rattle.armcaps_top.specs.Inside.{IsInstead};
 ghost use Rattle.armcaps_top.specs.Mrs.{general_name, read_line, read_refused_of, value_text};
 ghost use Rattle.armcaps_top.specs.Output.{output_after};
-ghost use Rattle.armcaps_top.specs.declared.commands.Command.TheVariants as Command;
+ghost use Rattle.armcaps_top.specs.declared.commands.Query.TheVariants as Query;
 
 use crate::bringing::bring_up;
 use crate::ending::Ending;
@@ -74,8 +74,8 @@ pub fn read_output(
     events: &[Event],
 ) -> Result<String, Ending>
     requires { IsAt 0 events.now (board_in boot.old) boot.old }
-    ensures output { IfOk result (λ text. output_after (Command.Mrs core word) (board_in boot.old) (reverse events.now) ≡ Ok (string_bytes text)) }
-    ensures instead { IfErr result (IsInstead (output_after (Command.Mrs core word) (board_in boot.old) (reverse events.now))) }
+    ensures output { IfOk result (λ text. output_after (Query.Mrs core word) (board_in boot.old) (reverse events.now) ≡ Ok (string_bytes text)) }
+    ensures instead { IfErr result (IsInstead (output_after (Query.Mrs core word) (board_in boot.old) (reverse events.now))) }
     ensures machine { result ≢ Err Ending.Memory → IsAfter (board_in boot.old) (steps_made (board_in boot.old) (reverse events.now)) boot.new }
 {
     if let Some(halt) = bring_up(boot, events) {

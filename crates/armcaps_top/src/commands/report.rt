@@ -7,7 +7,7 @@ ghost use Rattle.armcaps_boot.specs.Order.{is_complete};
 ghost use Rattle.armcaps_top.specs.Bringing.{IsAt, board_in};
 ghost use Rattle.armcaps_top.specs.Inside.{IsInstead};
 ghost use Rattle.armcaps_top.specs.Output.{output_after};
-ghost use Rattle.armcaps_top.specs.declared.commands.Command.TheVariants as Command;
+ghost use Rattle.armcaps_top.specs.declared.commands.Query.TheVariants as Query;
 
 use crate::bringing::bring_up;
 use crate::ending::Ending;
@@ -19,8 +19,8 @@ use std::alloc::Global;
 pub fn report_output(alloc: Global, boot: &mut Boot, events: &[Event]) -> Result<String, Ending>
     requires begins { IsAt 0 events.now (board_in boot.old) boot.old }
     requires complete { is_complete (length boot.old.cores) (reverse events.now) ≡ true }
-    ensures output { IfOk result (λ text. output_after Command.Report (board_in boot.old) (reverse events.now) ≡ Ok (string_bytes text)) }
-    ensures instead { IfErr result (IsInstead (output_after Command.Report (board_in boot.old) (reverse events.now))) }
+    ensures output { IfOk result (λ text. output_after Query.Report (board_in boot.old) (reverse events.now) ≡ Ok (string_bytes text)) }
+    ensures instead { IfErr result (IsInstead (output_after Query.Report (board_in boot.old) (reverse events.now))) }
     ensures machine { result ≢ Err Ending.Memory → IsAfter (board_in boot.old) (steps_made (board_in boot.old) (reverse events.now)) boot.new }
 {
     if let Some(halt) = bring_up(boot, events) {

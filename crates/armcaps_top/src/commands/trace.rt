@@ -13,7 +13,7 @@ ghost use Rattle.armcaps_top.specs.Bringing.{IsAt, board_in, steps_before};
 ghost use Rattle.armcaps_top.specs.Inside.{IsInstead};
 ghost use Rattle.armcaps_top.specs.Output.{output_after};
 ghost use Rattle.armcaps_top.specs.Trace.{changed_line, changed_lines, reply_text, step_line, step_lines, step_text, trace_of};
-ghost use Rattle.armcaps_top.specs.declared.commands.Command.TheVariants as Command;
+ghost use Rattle.armcaps_top.specs.declared.commands.Query.TheVariants as Query;
 
 use crate::bringing::make_step;
 use crate::ending::Ending;
@@ -146,8 +146,8 @@ fn trace_steps(
 /// Makes the steps in their order, and traces them.
 pub fn trace_output(alloc: Global, boot: &mut Boot, events: &[Event]) -> Result<String, Ending>
     requires { IsAt 0 events.now (board_in boot.old) boot.old }
-    ensures output { IfOk result (λ text. output_after Command.Trace (board_in boot.old) (reverse events.now) ≡ Ok (string_bytes text)) }
-    ensures instead { IfErr result (IsInstead (output_after Command.Trace (board_in boot.old) (reverse events.now))) }
+    ensures output { IfOk result (λ text. output_after Query.Trace (board_in boot.old) (reverse events.now) ≡ Ok (string_bytes text)) }
+    ensures instead { IfErr result (IsInstead (output_after Query.Trace (board_in boot.old) (reverse events.now))) }
     ensures machine { result ≢ Err Ending.Memory → IsAfter (board_in boot.old) (steps_made (board_in boot.old) (reverse events.now)) boot.new }
 {
     let mut text = String::new(alloc);

@@ -29,13 +29,13 @@ output-output-requires-clause-complete c =
 pub returns-clause-output : goal.returns-clause-output
 returns-clause-output c =
     let events = c.deref-2.ensures.value ∙ c.in-Ok.ensures ∙ ap (λ (lines : List StepLine). flat_map events_of lines) c.deref.ensures.value in
-    let same = carried (output_after c.args.command) (reading_of c.args.machine) c.deref-2.result.now c.in-Ok-new.boot events c.in-Ok-new.ensures.first in
+    let same = carried (output_after c.args.query) (reading_of c.args.machine) c.deref-2.result.now c.in-Ok-new.boot events c.in-Ok-new.ensures.first in
     subst (λ (answer : Result (List ℕ) Ending). IfOk c.output-output.result (λ text. answer ≡ Ok (string_bytes text))) same c.output-output.ensures.output
 
 pub returns-clause-instead : goal.returns-clause-instead
 returns-clause-instead c =
     let events = c.deref-2.ensures.value ∙ c.in-Ok.ensures ∙ ap (λ (lines : List StepLine). flat_map events_of lines) c.deref.ensures.value in
-    let same = carried (output_after c.args.command) (reading_of c.args.machine) c.deref-2.result.now c.in-Ok-new.boot events c.in-Ok-new.ensures.first in
+    let same = carried (output_after c.args.query) (reading_of c.args.machine) c.deref-2.result.now c.in-Ok-new.boot events c.in-Ok-new.ensures.first in
     subst (λ (answer : Result (List ℕ) Ending). IfErr c.output-output.result (IsInstead answer)) same c.output-output.ensures.instead
 
 pub returns-clause-machine : goal.returns-clause-machine
@@ -52,10 +52,10 @@ returns-clause-machine c = λ had_memory.
 pub returns-clause-safe : goal.returns-clause-safe
 returns-clause-safe c =
     let events = c.deref-2.ensures.value ∙ c.in-Ok.ensures ∙ ap (λ (lines : List StepLine). flat_map events_of lines) c.deref.ensures.value in
-    let same = carried (output_after c.args.command) (reading_of c.args.machine) c.deref-2.result.now c.in-Ok-new.boot events c.in-Ok-new.ensures.first in
+    let same = carried (output_after c.args.query) (reading_of c.args.machine) c.deref-2.result.now c.in-Ok-new.boot events c.in-Ok-new.ensures.first in
     let board : Board = board_of (reading_of c.args.machine) in
-    if_ok c.output-output.result (λ text. output_after c.args.command (board_in c.in-Ok-new.boot) (reverse c.deref-2.result.now) ≡ Ok (string_bytes text))
+    if_ok c.output-output.result (λ text. output_after c.args.query (board_in c.in-Ok-new.boot) (reverse c.deref-2.result.now) ≡ Ok (string_bytes text))
     (λ text. IsSafe board (history c.args.machine.steps.items))
     (λ text is. c.documents_are_safe.ensures board (history c.args.machine.steps.items) (is_board (reading_of c.args.machine) c.requires.sound) c.requires.sound.order
-    c.requires.sound.complete (goes_through c.args.command board (history c.args.machine.steps.items) (string_bytes text) (sym same ∙ is)))
+    c.requires.sound.complete (goes_through c.args.query board (history c.args.machine.steps.items) (string_bytes text) (sym same ∙ is)))
     c.output-output.ensures.output

@@ -1,0 +1,33 @@
+-- What `patch` writes: the image with its selected alternatives, or why it writes none.
+use Rattle.std.specs.Prelude.{ℕ, ◌++◌, List, Option, Some, None, Result, Ok, Err, codes}
+use Rattle.std.specs.Fmt.{decimal}
+use Rattle.armcaps_alt.specs.declared.patch_kind.PatchKind.{PatchKind}
+use Rattle.armcaps_alt.specs.Entries.{Features}
+use Rattle.armcaps_alt.specs.Patched.{patched_image}
+use Rattle.armcaps_alt.specs.Refusals as alternatives
+use Rattle.armcaps_alt.specs.Refusals.{first_refusal, kind_number, kind_word}
+use Rattle.armcaps_boot.specs.declared.event.Event.{Event}
+use Rattle.armcaps_boot.specs.Admission.{Board}
+use Rattle.armcaps_boot.specs.Findings.{findings_after}
+use Rattle.armcaps_patch.specs.Features.{features_of_findings}
+use Rattle.armcaps_text.specs.Document.{Reading}
+use Rattle.armcaps_top.specs.declared.ending.Ending.{Ending}
+use Rattle.armcaps_top.specs.declared.ending.Ending.TheVariants.{NotPatched}
+
+-- the text of a refused entry, as `entry 0: kind 8 literal`
+unfoldable pub entry_text : ℕ → PatchKind → List ℕ
+entry_text entry kind = codes "entry " ++ decimal entry ++ codes ": kind " ++ decimal (kind_number kind) ++ codes " " ++ kind_word kind
+
+-- the image, unless an entry is refused
+abbrev pub unless_entry_refused : Option alternatives.Refusal → List ℕ → Result (List ℕ) Ending
+unless_entry_refused None image = Ok image
+unless_entry_refused (Some refusal) image = Err (NotPatched refusal.entry refusal.kind)
+
+-- the image patched by what the machine has
+abbrev pub patched_by : Features → Reading → List ℕ → Result (List ℕ) Ending
+patched_by features reading image =
+    unless_entry_refused (first_refusal features image reading.layout) (patched_image features image reading.layout)
+
+-- the image patched once all steps of a board are made
+abbrev pub patch_output : Board → List Event → Reading → List ℕ → Result (List ℕ) Ending
+patch_output board steps reading image = patched_by (features_of_findings (findings_after board steps) reading.names) reading image
