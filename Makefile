@@ -12,12 +12,13 @@ DOCDIR ?= $(DATADIR)/doc/armcaps
 
 VERSION := $(shell cat VERSION)
 PROGRAM := crates/armcaps/out/armcaps
-TOOLS := dump2text explain cmdline-lint
+TOOLS := dump2text explain cmdline-lint kernel2text
 PAGES := $(wildcard docs/MACHINE-TEXT.md docs/OVERRIDES.md docs/REPORT.md docs/TRACE.md docs/MRS.md docs/STATUSES.md \
-	docs/FIELDS.md docs/CAPABILITIES.md docs/HWCAPS.md docs/FROM-A-BOARD.md)
+	docs/FIELDS.md docs/CAPABILITIES.md docs/HWCAPS.md docs/FROM-A-BOARD.md docs/PATCHING.md docs/ALTERNATIVES.md)
 EXAMPLES := $(wildcard examples/*.txt examples/*.report examples/*.trace examples/*.mrs examples/*.status examples/*.err) \
 	examples/README.md
 DUMPS := $(wildcard examples/dumps/*)
+PATCHING := examples/patching/make-kernel examples/patching/cpucap-defs.h
 MODULES := $(patsubst %,tools/armcaps_tools/%.py,__init__ profile text)
 TABLES := $(wildcard tools/data/*.tsv)
 IDREGS := $(patsubst %,tools/idregs/%,Makefile idregs.c registers.h virt.c virt-start.S virt.ld go.S)
@@ -44,6 +45,7 @@ install:
 	install -D -m 644 -t $(DESTDIR)$(DOCDIR) $(PAGES)
 	install -D -m 644 -t $(DESTDIR)$(DOCDIR)/examples $(EXAMPLES)
 	install -D -m 644 -t $(DESTDIR)$(DOCDIR)/examples/dumps $(DUMPS)
+	install -D -t $(DESTDIR)$(DOCDIR)/examples/patching $(PATCHING)
 	install -D -t $(LIBRARY) $(TOOLS:%=tools/%)
 	install -D -m 644 -t $(LIBRARY)/armcaps_tools $(MODULES)
 	install -D -m 644 -t $(LIBRARY)/data $(TABLES)
@@ -54,10 +56,10 @@ install:
 # what install copied, and the folders of its own that are empty then
 uninstall:
 	rm -f $(DESTDIR)$(BINDIR)/armcaps $(TOOLS:%=$(DESTDIR)$(BINDIR)/armcaps-%) $(DESTDIR)$(MANDIR)/man1/armcaps.1
-	cd $(DESTDIR)$(DOCDIR) && rm -f $(notdir $(PAGES)) $(EXAMPLES) $(DUMPS)
+	cd $(DESTDIR)$(DOCDIR) && rm -f $(notdir $(PAGES)) $(EXAMPLES) $(DUMPS) $(PATCHING)
 	cd $(LIBRARY) && rm -f $(TOOLS) $(patsubst tools/%,%,$(MODULES) $(TABLES) $(IDREGS)) idregs/build idregs/run
 	rm -rf $(LIBRARY)/armcaps_tools/__pycache__
-	-rmdir $(LIBRARY)/armcaps_tools $(LIBRARY)/data $(LIBRARY)/idregs $(LIBRARY) $(addprefix $(DESTDIR)$(DOCDIR),/examples/dumps /examples /)
+	-rmdir $(LIBRARY)/armcaps_tools $(LIBRARY)/data $(LIBRARY)/idregs $(LIBRARY) $(addprefix $(DESTDIR)$(DOCDIR),/examples/dumps /examples/patching /examples /)
 
 clean:
 	rm -rf build crates/*/out
