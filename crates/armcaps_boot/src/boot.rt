@@ -5,6 +5,7 @@ ghost use Rattle.armcaps_tables.specs.Core.{word_at};
 ghost use Rattle.armcaps_sanit.specs.System.{IsSystemOf};
 ghost use Rattle.armcaps_tables.specs.Overriding.{override_of};
 ghost use Rattle.armcaps_caps.specs.Capabilities.{is_erratum_class, is_system_scope};
+ghost use Rattle.armcaps_caps.specs.Rows.{capability_count};
 ghost use Rattle.armcaps_boot.specs.Answers.{answer_of};
 ghost use Rattle.armcaps_boot.specs.First.{first_states, first_world};
 ghost use Rattle.armcaps_boot.specs.Numbers.{is_in};
@@ -15,6 +16,7 @@ use crate::halt::Halt;
 use crate::machine::Machine;
 use crate::refused::{BootRefused, StepRefused};
 use crate::reply::Reply;
+use armcaps_caps::CAPABILITIES;
 use armcaps_enc::SysReg;
 use armcaps_hwcap::HwSet;
 use armcaps_sanit::System;
@@ -158,13 +160,13 @@ impl Boot {
     pub fn enabled(&self, number: u16) -> bool
         ensures member { result ≡ is_in self.now.enabled number }
         ensures before { self.now.final ≡ false → result ≡ is_enabled_at_first self.now number }
-        ensures after { self.now.final ≡ true → number < 53 → result ≡ is_enabled self.now number }
-        ensures supported { self.now.final ≡ true → number < 53 → is_system_scope number ≡ true → result ≡ true
+        ensures after { self.now.final ≡ true → number < capability_count → result ≡ is_enabled self.now number }
+        ensures supported { self.now.final ≡ true → number < capability_count → is_system_scope number ≡ true → result ≡ true
             → (core : ℕ) → WasAdmitted self.now core → core_has self.now core number ≡ true }
-        ensures needed { self.now.final ≡ true → number < 53 → is_erratum_class number ≡ true
+        ensures needed { self.now.final ≡ true → number < capability_count → is_erratum_class number ≡ true
             → (core : ℕ) → WasAdmitted self.now core → core_has self.now core number ≡ true → result ≡ true }
     {
-        number < 53 && self.machine.enabled.contains(number)
+        number < CAPABILITIES && self.machine.enabled.contains(number)
     }
 
     /// The hwcaps: none before finalisation.

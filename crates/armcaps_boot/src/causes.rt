@@ -1,7 +1,9 @@
 ghost use Rattle.std.specs.Prelude.{◌≡◌, ◌≤◌, ◌<◌, ◌&&◌, not, nat_lt, IfSome, Option};
 ghost use Rattle.armcaps_caps.specs.Capabilities.{conflicts, core_has_capability};
+ghost use Rattle.armcaps_caps.specs.Rows.{capability_count};
 ghost use Rattle.armcaps_caps.specs.Set.{holds};
 ghost use Rattle.armcaps_hwcap.specs.Hwcaps.{core_has_hwcap};
+ghost use Rattle.armcaps_hwcap.specs.Rows.{hwcap_count};
 ghost use Rattle.armcaps_hwcap.specs.Words.{set_has_row};
 ghost use Rattle.armcaps_boot.specs.Causes as causes;
 ghost use Rattle.armcaps_boot.specs.Numbers.{first_of};
@@ -9,9 +11,9 @@ ghost use Rattle.armcaps_boot.specs.Scopes.{conflict_with, held_at_check, in_sco
 
 use crate::cause::Cause;
 use armcaps_bits::Bits;
-use armcaps_caps::{CapSet, conflict, has, is_boot_scope, is_panic};
+use armcaps_caps::{CAPABILITIES, CapSet, conflict, has, is_boot_scope, is_panic};
 use armcaps_enc::SysReg;
-use armcaps_hwcap::{HwSet, core_has};
+use armcaps_hwcap::{HWCAPS, HwSet, core_has};
 use armcaps_tables::{CoreRegs, Overrides};
 
 // Whether a core's ASIDs have fewer bits than the boot core's.
@@ -88,9 +90,9 @@ fn first_conflict(
     ctr: u64,
 ) -> Option<u16>
     ensures first { result ≡ conflict_with of_boot_scope enabled.now overrides.now boot.now core.now ctr }
-    ensures within { IfSome result (λ number. number < 53) }
+    ensures within { IfSome result (λ number. number < capability_count) }
 {
-    for number in 0..53 {
+    for number in 0..CAPABILITIES {
         if is_in_conflict(number, of_boot_scope, enabled, overrides, boot, core, ctr) {
             return Some(number);
         }
@@ -108,7 +110,7 @@ fn is_in_conflict(
     core: &CoreRegs,
     ctr: u64,
 ) -> bool
-    requires { number < 53 }
+    requires { number < capability_count }
     ensures { result ≡ (in_scope of_boot_scope number && conflicts number (holds enabled.now number) (core_has_capability overrides.now boot.now ctr core.now number)) }
 {
     is_in_scope(of_boot_scope, number)
@@ -120,7 +122,7 @@ fn is_in_conflict(
 }
 
 fn is_in_scope(of_boot_scope: bool, number: u16) -> bool
-    requires { number < 53 }
+    requires { number < capability_count }
     ensures { result ≡ in_scope of_boot_scope number }
 {
     if of_boot_scope {
@@ -132,9 +134,9 @@ fn is_in_scope(of_boot_scope: bool, number: u16) -> bool
 
 // The first hwcap of these that a core lacks.
 fn first_lacking_hwcap(hwcaps: &HwSet, overrides: &Overrides, core: &CoreRegs) -> Option<u16>
-    ensures { result ≡ first_of 0 57 (λ index. set_has_row hwcaps.now index && not (core_has_hwcap overrides.now core.now index)) }
+    ensures { result ≡ first_of 0 hwcap_count (λ index. set_has_row hwcaps.now index && not (core_has_hwcap overrides.now core.now index)) }
 {
-    for index in 0..57u16 {
+    for index in 0..HWCAPS as u16 {
         if is_lacking(index as usize, hwcaps, overrides, core) {
             return Some(index);
         }
@@ -144,7 +146,7 @@ fn first_lacking_hwcap(hwcaps: &HwSet, overrides: &Overrides, core: &CoreRegs) -
 
 // Whether the hwcap at this place of the table is one of these and a core lacks it.
 fn is_lacking(index: usize, hwcaps: &HwSet, overrides: &Overrides, core: &CoreRegs) -> bool
-    requires { index < 57 }
+    requires { index < hwcap_count }
     ensures { result ≡ (set_has_row hwcaps.now index && not (core_has_hwcap overrides.now core.now index)) }
 {
     hwcaps.contains(index) && !core_has(index, overrides, core)

@@ -1,12 +1,13 @@
 ghost use Rattle.std.specs.Prelude.{◌≡◌, ◌<◌, ◌≤◌, ◌&&◌, ◌||◌, ℕ, None, Some, length};
 ghost use Rattle.armcaps_caps.specs.Capabilities.{core_has_capability};
+ghost use Rattle.armcaps_caps.specs.Rows.{capability_count};
 ghost use Rattle.armcaps_caps.specs.Set.{holds};
 ghost use Rattle.armcaps_boot.specs.Answers as answers;
 ghost use Rattle.armcaps_boot.specs.Scopes as asked;
 
 use crate::core_state::CoreState;
 use crate::moving::is_in_flight;
-use armcaps_caps::{CapSet, has, is_boot_scope, is_local_scope, system_has};
+use armcaps_caps::{CAPABILITIES, CapSet, has, is_boot_scope, is_local_scope, system_has};
 use armcaps_sanit::System;
 use armcaps_tables::{CoreRegs, Overrides};
 
@@ -20,11 +21,11 @@ pub(crate) fn with_own(
     core: &CoreRegs,
     ctr: u64,
 ) -> CapSet
-    ensures { (n : ℕ) → n < 53
+    ensures { (n : ℕ) → n < capability_count
         → holds result n ≡ (holds given n || (asked.own_scope of_boot_scope n && core_has_capability overrides.now boot.now ctr core.now n)) }
 {
     let mut set = given;
-    for number in 0..53 {
+    for number in 0..CAPABILITIES {
         if is_own(number, of_boot_scope, overrides, boot, core, ctr) {
             set.insert(number);
         }
@@ -41,7 +42,7 @@ fn is_own(
     core: &CoreRegs,
     ctr: u64,
 ) -> bool
-    requires { number < 53 }
+    requires { number < capability_count }
     ensures { result ≡ (asked.own_scope of_boot_scope number && core_has_capability overrides.now boot.now ctr core.now number) }
 {
     let in_scope = if of_boot_scope {
@@ -55,10 +56,10 @@ fn is_own(
 /// The capabilities that are enabled at finalisation: those of boot scope that were enabled before, the local ones that were
 /// noted, and those that all cores of the system have together.
 pub(crate) fn decided(enabled: &CapSet, noted: &CapSet, system: &System) -> CapSet
-    ensures { (n : ℕ) → n < 53 → holds result n ≡ asked.enabled_by enabled.now noted.now system.now n }
+    ensures { (n : ℕ) → n < capability_count → holds result n ≡ asked.enabled_by enabled.now noted.now system.now n }
 {
     let mut set = CapSet::empty();
-    for number in 0..53 {
+    for number in 0..CAPABILITIES {
         if is_enabled(number, enabled, noted, system) {
             set.insert(number);
         }
@@ -69,7 +70,7 @@ pub(crate) fn decided(enabled: &CapSet, noted: &CapSet, system: &System) -> CapS
 // Whether the capability of this number is enabled at finalisation.
 #[tactic(auto, unfolding(crate::specs::Scopes::enabled_by))]
 fn is_enabled(number: u16, enabled: &CapSet, noted: &CapSet, system: &System) -> bool
-    requires { number < 53 }
+    requires { number < capability_count }
     ensures { result ≡ asked.enabled_by enabled.now noted.now system.now number }
 {
     if is_boot_scope(number) {

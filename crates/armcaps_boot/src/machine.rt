@@ -6,6 +6,7 @@ ghost use Rattle.armcaps_boot.specs.Facts.{Facts};
 ghost use Rattle.armcaps_boot.specs.First.{first_states, first_world};
 ghost use Rattle.armcaps_boot.specs.Machine.{world_of};
 ghost use Rattle.armcaps_tables.specs.Overriding.{AllFit};
+ghost use Rattle.armcaps_caps.specs.Rows.{capability_count};
 ghost use Rattle.armcaps_caps.specs.Set.{holds};
 ghost use Rattle.armcaps_boot.specs.Numbers.{numbers};
 ghost use Rattle.armcaps_boot.specs.World.{state_at};
@@ -24,6 +25,9 @@ use armcaps_enc::SysReg;
 use armcaps_hwcap::{HwSet, of_system};
 use armcaps_sanit::System;
 use armcaps_tables::{CoreRegs, Overrides};
+
+// The number of the capability SVE.
+const SVE: u16 = 36;
 
 /// A machine that is brought up, as plain data.
 #[derive(Drop)]
@@ -201,7 +205,7 @@ impl Machine {
         self.enabled = decided(&self.enabled, &self.noted, &self.system);
         self.hwcaps = of_system(&self.system);
         self.ctr = self.system.word(SysReg::CtrEl0);
-        self.lengths = if self.enabled.contains(36) {
+        self.lengths = if self.enabled.contains(SVE) {
             self.kept
         } else {
             0
@@ -270,7 +274,7 @@ impl Machine {
     fn noted_with(&self, core: u32) -> CapSet
         requires facts { Facts (world_of self.now) }
         requires within { core < length self.now.cores.items }
-        ensures { numbers 53 (holds result) ≡ (if self.now.is_final then (world_of self.now).noted else changes.noted_with (world_of self.now) core) }
+        ensures { numbers capability_count (holds result) ≡ (if self.now.is_final then (world_of self.now).noted else changes.noted_with (world_of self.now) core) }
     {
         if self.is_final {
             return self.noted;

@@ -17,7 +17,7 @@ pub use deciding::{conflict, has, system_has};
 pub use scopes::{
     is_boot_scope, is_local_scope, is_optional, is_panic, is_permitted, is_system_scope,
 };
-pub use table::{cap, capabilities_hold, of_name};
+pub use table::{CAPABILITIES, cap, capabilities_hold, of_name};
 
 #[cfg(test)]
 mod tests;

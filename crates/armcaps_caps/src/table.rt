@@ -12,8 +12,8 @@ use crate::cap_flags::CapFlags;
 use crate::cap_row::{CapRow, Test};
 use armcaps_enc::SysReg;
 
-// How many capabilities there are.
-pub(crate) const CAPABILITIES: u16 = 53;
+/// How many capabilities there are. Their numbers are those below it.
+pub const CAPABILITIES: u16 = 53;
 
 // A test from its words in a line.
 macro_rules! test {

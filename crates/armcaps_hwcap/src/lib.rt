@@ -10,7 +10,7 @@ mod table;
 pub use advertising::{core_has, of_system};
 pub use hw_set::HwSet;
 pub use row::{HwField, HwRow};
-pub use table::{hw_row, hwcaps_hold};
+pub use table::{HWCAPS, hw_row, hwcaps_hold};
 
 #[cfg(test)]
 mod tests;

@@ -9,8 +9,8 @@ use crate::row::{HwField, HwRow};
 use armcaps_enc::SysReg;
 use arrayvec::ArrayVec;
 
-// How many hwcaps there are.
-pub(crate) const HWCAPS: usize = 57;
+/// How many hwcaps there are. Their places in the table are those below it.
+pub const HWCAPS: usize = 57;
 
 // A line of the table.
 #[derive(Clone, Copy)]

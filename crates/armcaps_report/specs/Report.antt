@@ -11,6 +11,8 @@ use Rattle.armcaps_sanit.specs.Notes.{field_note}
 use Rattle.armcaps_sanit.specs.System.{system_word}
 use Rattle.armcaps_sanit.specs.Users.{user_word}
 use Rattle.armcaps_sanit.specs.Varying.{core_varies}
+use Rattle.armcaps_caps.specs.Rows.{capability_count}
+use Rattle.armcaps_hwcap.specs.Rows.{hwcap_count}
 use Rattle.armcaps_hwcap.specs.Words.{hwcap_word, hwcap2_word}
 use Rattle.armcaps_boot.specs.Causes.{capability_enabled, hwcap_advertised, is_system_length}
 use Rattle.armcaps_boot.specs.Findings.{Findings, admitted, boot_core, early}
@@ -35,7 +37,7 @@ note_lines overrides boot register =
 
 -- the names of the hwcaps that pass a test
 unfoldable pub flags_text : (ℕ → Bool) → List ℕ
-flags_text advertised = flat_map (λ index. flag_text (advertised index) index) (range_with_len 0 57)
+flags_text advertised = flat_map (λ index. flag_text (advertised index) index) (range_with_len 0 hwcap_count)
 
 -- the two words of hwcaps, and their names
 abbrev pub hwcap_lines : (ℕ → Bool) → List ℕ
@@ -70,7 +72,7 @@ all_note_lines found = flat_map (note_lines found.overrides (boot_core found)) t
 unfoldable pub capability_lines : Findings → List ℕ
 capability_lines found =
     flat_map (λ number. capability_line (capability_enabled found.overrides (boot_core found) (early found) number) number)
-    (range_with_len 0 53)
+    (range_with_len 0 capability_count)
 
 -- the vector lengths that programs are told of
 unfoldable pub length_lines : Findings → List ℕ

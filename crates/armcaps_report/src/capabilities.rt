@@ -7,6 +7,7 @@ ghost use Rattle.armcaps_report.specs.Report.{capability_lines};
 
 use crate::causes::push_capability;
 use armcaps_boot::Boot;
+use armcaps_caps::CAPABILITIES;
 use std::alloc::AllocError;
 
 /// Adds the lines of the capabilities that are enabled.
@@ -15,7 +16,7 @@ pub(crate) fn push_capabilities(text: &mut String, boot: &Boot) -> Result<(), Al
     requires { boot.now.final ≡ true }
     ensures { OnOk result (string_bytes text.new ≡ string_bytes text.old ++ capability_lines (findings_of boot.now)) }
 {
-    for number in 0..53 {
+    for number in 0..CAPABILITIES {
         push_where_enabled(text, boot.enabled(number), number)?;
     }
     Ok(())

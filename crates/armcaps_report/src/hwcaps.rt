@@ -1,6 +1,7 @@
 //! The group of hwcaps.
 
 ghost use Rattle.std.specs.Prelude.{◌≡◌, ◌<◌, ◌++◌, OnOk, string_bytes, true};
+ghost use Rattle.armcaps_hwcap.specs.Rows.{hwcap_count};
 ghost use Rattle.armcaps_hwcap.specs.Words.{hwcap_word, hwcap2_word};
 ghost use Rattle.armcaps_boot.specs.Causes.{hwcap_advertised};
 ghost use Rattle.armcaps_boot.specs.World.{early_cores};
@@ -10,7 +11,7 @@ ghost use Rattle.armcaps_report.specs.Report.{flags_text, hwcap_lines};
 use crate::causes::hwcap_name;
 use crate::registers::push_word;
 use armcaps_boot::Boot;
-use armcaps_hwcap::HwSet;
+use armcaps_hwcap::{HWCAPS, HwSet};
 use std::alloc::AllocError;
 use std::fmt::Write;
 
@@ -56,7 +57,7 @@ fn push_flags(text: &mut String, boot: &Boot) -> Result<(), AllocError>
     ensures { OnOk result (string_bytes text.new ≡ string_bytes text.old
         ++ flags_text (hwcap_advertised boot.now.overrides (early_cores boot.now))) }
 {
-    for index in 0..57 {
+    for index in 0..HWCAPS {
         push_flag(text, is_advertised(boot, index), index)?;
     }
     Ok(())
@@ -65,7 +66,7 @@ fn push_flags(text: &mut String, boot: &Boot) -> Result<(), AllocError>
 // Whether a hwcap is advertised.
 fn is_advertised(boot: &Boot, index: usize) -> bool
     requires finalised { boot.now.final ≡ true }
-    requires row { index < 57 }
+    requires row { index < hwcap_count }
     ensures { result ≡ hwcap_advertised boot.now.overrides (early_cores boot.now) index }
 {
     hwcaps(boot).contains(index)

@@ -7,6 +7,7 @@ use Rattle.armcaps_alt.specs.declared.named_number.Named.TheVariants.{Cap}
 use Rattle.armcaps_alt.specs.declared.smccc_conduit.Conduit.TheVariants as conduit
 use Rattle.armcaps_boot.specs.declared.step_line.StepLine.{StepLine}
 use Rattle.armcaps_boot.specs.declared.step_line.StepLine.TheVariants.{Online, Finalise}
+use Rattle.armcaps_caps.specs.Rows.{capability_count}
 use Rattle.armcaps_cmdline.specs.Overrides.{command_line_overrides}
 use Rattle.armcaps_enc.specs.declared.register.SysReg.TheVariants.{MidrEl1, IdAa64Pfr0El1, IdAa64Dfr0El1, IdAa64Isar0El1, IdAa64Mmfr0El1, CtrEl0, DczidEl0}
 use Rattle.armcaps_tables.specs.Core.{Core}
@@ -62,9 +63,9 @@ unfoldable pub generated_steps : ℕ → List StepLine
 generated_steps cores =
     map Online (range_with_len 1 (cores / 2)) ++ Finalise ∷ map Online (range_with_len (cores / 2 + 1) (cores - 1 - cores / 2))
 
--- each of the 53 capabilities has its own number
+-- each capability has its own number
 abbrev pub generated_names : NameLists
-generated_names = record { numbers = map (λ number. (number, Cap number)) (range_with_len 0 53); callbacks = []; conduit = conduit.None }
+generated_names = record { numbers = map (λ number. (number, Cap number)) (range_with_len 0 capability_count); callbacks = []; conduit = conduit.None }
 
 -- what is generated from a seed for so many cores, beside the image: the first core is a Cortex-A53 and the boot core, and the
 -- command line is empty
@@ -100,7 +101,7 @@ abbrev pub alternative_drawn : ℕ → Drawn Alternative
 alternative_drawn state =
     let count = number_drawn state in
     let number = number_drawn count.state in
-    made (λ instructions. record { number = number.value % 53; instructions = instructions })
+    made (λ instructions. record { number = number.value % capability_count; instructions = instructions })
     (several instruction_drawn (1 + count.value % 4) number.state)
 
 -- the alternatives, which are drawn after the cores

@@ -4,6 +4,7 @@ ghost use Rattle.armcaps_text.specs.Generator.{alternative_drawn, core_drawn, co
 
 use crate::alternative::Alternative;
 use crate::instruction::Instruction;
+use armcaps_caps::CAPABILITIES;
 use armcaps_enc::SysReg;
 use armcaps_tables::CoreRegs;
 use std::alloc::{AllocError, Global};
@@ -93,7 +94,7 @@ impl Draws {
         ensures { IfOk result (λ drawn. alternative_drawn self.old.state ≡ record { value = drawn; state = self.new.state }) }
     {
         let count = 1 + self.number() % 4;
-        let number = self.number() % 53;
+        let number = self.number() % u32::from(CAPABILITIES);
         let instructions = self.instructions(alloc, count)?;
         Ok(Alternative {
             number: number as u16,

@@ -11,6 +11,7 @@ use crate::large_image::image_of;
 use crate::machine::Machine;
 use armcaps_alt::{Conduit, Layout, Named, Names};
 use armcaps_boot::StepLine;
+use armcaps_caps::CAPABILITIES;
 use armcaps_cmdline::parse;
 use std::alloc::{AllocError, Global};
 
@@ -45,7 +46,7 @@ fn make_names(alloc: Global) -> Result<Names, AllocError>
     ensures { IfOk result (λ names. names ≡ generated_names) }
 {
     let mut numbers = Vec::new(alloc);
-    for number in 0..53 {
+    for number in 0..CAPABILITIES {
         numbers.push((number, Named::Cap(number)))?;
     }
     Ok(Names::new(numbers, Vec::new(alloc), Conduit::None))

@@ -7,31 +7,31 @@ use Rattle.armcaps_boot.proofs.FirstNumbers.{is_in-numbers}
 use Rattle.armcaps_boot.proofs.SafeSystem.{member_of, else_none, enabled_after, enabled_before, enabled_is_supported, needed_is_enabled}
 use Rattle.armcaps_boot.proofs.boot.Boot.enabled.Goals as goal
 
-pub returns-then-number-lt53-clause-member : goal.returns-then-number-lt53-clause-member
-returns-then-number-lt53-clause-member c =
-    c.contains.ensures ∙ sym (is_in-numbers (holds c.self.inside.machine.enabled) 53 c.args.number c.if-number-lt53.true)
+pub returns-then-number-lt-CAPABILITIES-clause-member : goal.returns-then-number-lt-CAPABILITIES-clause-member
+returns-then-number-lt-CAPABILITIES-clause-member c =
+    c.contains.ensures ∙ sym (is_in-numbers (holds c.self.inside.machine.enabled) 53 c.args.number c.if-number-lt-CAPABILITIES.true)
     ∙ ap (λ (w : World). is_in w.enabled c.args.number) c.self.view_is
 
-pub returns-then-number-lt53-clause-before : goal.returns-then-number-lt53-clause-before
-returns-then-number-lt53-clause-before c final =
-    returns-then-number-lt53-clause-member c ∙ enabled_before c.args.self.now (subst Facts c.self.view_is c.self.invariant) final c.args.number
+pub returns-then-number-lt-CAPABILITIES-clause-before : goal.returns-then-number-lt-CAPABILITIES-clause-before
+returns-then-number-lt-CAPABILITIES-clause-before c final =
+    returns-then-number-lt-CAPABILITIES-clause-member c ∙ enabled_before c.args.self.now (subst Facts c.self.view_is c.self.invariant) final c.args.number
 
-pub returns-then-number-lt53-clause-after : goal.returns-then-number-lt53-clause-after
-returns-then-number-lt53-clause-after c final within =
-    returns-then-number-lt53-clause-member c ∙ enabled_after c.args.self.now (subst Facts c.self.view_is c.self.invariant) final c.args.number within
+pub returns-then-number-lt-CAPABILITIES-clause-after : goal.returns-then-number-lt-CAPABILITIES-clause-after
+returns-then-number-lt-CAPABILITIES-clause-after c final within =
+    returns-then-number-lt-CAPABILITIES-clause-member c ∙ enabled_after c.args.self.now (subst Facts c.self.view_is c.self.invariant) final c.args.number within
 
-pub returns-then-number-lt53-clause-supported : goal.returns-then-number-lt53-clause-supported
-returns-then-number-lt53-clause-supported c final within scope on =
+pub returns-then-number-lt-CAPABILITIES-clause-supported : goal.returns-then-number-lt-CAPABILITIES-clause-supported
+returns-then-number-lt-CAPABILITIES-clause-supported c final within scope on =
     enabled_is_supported c.args.self.now (subst Facts c.self.view_is c.self.invariant) final c.args.number within scope
-    (sym (returns-then-number-lt53-clause-after c final within) ∙ on)
+    (sym (returns-then-number-lt-CAPABILITIES-clause-after c final within) ∙ on)
 
-pub returns-then-number-lt53-clause-needed : goal.returns-then-number-lt53-clause-needed
-returns-then-number-lt53-clause-needed c final within erratum core admitted has =
-    returns-then-number-lt53-clause-after c final within
+pub returns-then-number-lt-CAPABILITIES-clause-needed : goal.returns-then-number-lt-CAPABILITIES-clause-needed
+returns-then-number-lt-CAPABILITIES-clause-needed c final within erratum core admitted has =
+    returns-then-number-lt-CAPABILITIES-clause-after c final within
     ∙ needed_is_enabled c.args.self.now (subst Facts c.self.view_is c.self.invariant) final c.args.number within erratum core admitted has
 
-pub returns-else-number-lt53-clause-member : goal.returns-else-number-lt53-clause-member
-returns-else-number-lt53-clause-member c =
-    else_none c.args.number (holds c.self.inside.machine.enabled c.args.number) c.if-number-lt53.false
+pub returns-else-number-lt-CAPABILITIES-clause-member : goal.returns-else-number-lt-CAPABILITIES-clause-member
+returns-else-number-lt-CAPABILITIES-clause-member c =
+    else_none c.args.number (holds c.self.inside.machine.enabled c.args.number) c.if-number-lt-CAPABILITIES.false
     ∙ member_of c.self.inside.machine.enabled c.args.number
     ∙ ap (λ (w : World). is_in w.enabled c.args.number) c.self.view_is
