@@ -1,6 +1,8 @@
 pub mod Answered
 pub mod Brought
+pub mod CoreCounts
 pub mod DocumentFields
+pub mod Generated
 pub mod Images
 pub mod Limits
 pub mod Outputs
@@ -9,5 +11,6 @@ pub mod Promising
 pub mod ShortNames
 pub mod SmallNumbers
 pub mod Steps
+pub mod Tallies
 pub mod Texts
 pub mod Traces

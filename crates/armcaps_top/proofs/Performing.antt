@@ -57,7 +57,7 @@ patched input out bytes found image machines given is writes made safe added = r
   form = λ e. absurd (let no : ⊥ = cc in no);
   reason = (
     known_answer (λ one. IsOkAnd one (Appends out.old out.new)) input.old input.new bytes given (subst (λ (one : Result (List ℕ) Ending). IsOkAnd one (Appends out.old out.new)) (sym (ap (written_of Patch) is ∙ writes)) added),
-    read_whole input.old input.new bytes given,
+    λ reads. read_whole input.old input.new bytes given,
   );
   safe = λ e. known (λ one. IsOkAnd one (λ d. IsSafe (board_of d.reading) (steps_of d))) input.old input.new bytes given (rw is safe);
   silent = λ done fault. absurd (done refl);

@@ -1,5 +1,5 @@
 -- From what a command does to what a run promises.
-use Rattle.std.proofs.Common.{◌≡◌, ◌≢◌, ◌⊎◌, inl, inr, ℕ, ◌≤◌, List, [], Option, Some, None, refl, sym, ap, subst, arith, lit≤}
+use Rattle.std.proofs.Common.{◌≡◌, ◌≢◌, ◌⊎◌, inl, inr, ℕ, ◌≤◌, true, false, List, [], Option, Some, None, refl, sym, ap, subst, ◌∙◌, arith, lit≤}
 use Rattle.std.specs.Prelude.{Result, Ok, Err, IfSome, IsSome}
 use Rattle.std.specs.Option.{option_map}
 use Rattle.std.specs.Result.{IsOkAnd, IsErr}
@@ -12,9 +12,10 @@ use Rattle.armcaps_top.specs.Commands.{command_of}
 use Rattle.armcaps_top.specs.Document.{Document}
 use Rattle.armcaps_top.specs.Ending.{status_of}
 use Rattle.armcaps_top.specs.Inside.{Performs}
-use Rattle.armcaps_top.specs.Run.{Change, IsPatchRefused, IsReadRefused, Promises, Reason, answer_for, answer_status, document_for, halt_in, written_of}
+use Rattle.armcaps_top.specs.Run.{Change, IsPatchRefused, IsReadRefused, Promises, Reason, answer_for, answer_status, document_for, halt_in, reads_input, written_of}
 use Rattle.armcaps_top.specs.Telling.{Tells}
 use Rattle.armcaps_top.specs.declared.commands.Command.{Command}
+use Rattle.armcaps_top.specs.declared.commands.Command.TheVariants.{Demo}
 use Rattle.armcaps_top.specs.declared.commands.mrs.ReadRefused.{ReadRefused}
 use Rattle.armcaps_top.specs.declared.ending.Ending.{Ending}
 use Rattle.armcaps_top.specs.declared.ending.Ending.TheVariants.{Done, Usage, Refused, ReadFault, WriteFault, Memory, Panicked, NotPatched, NotRead}
@@ -183,11 +184,11 @@ always : {X : Type 0} (found : Option X) → IfSome found (λ x. Unit {0})
 always None = tt
 always (Some x) = tt
 
--- where neither stream failed
+-- where no stream failed that is used
 exact : (command : Command) (found : Option (Result Document Refusal)) (input out : Change) (ending : Ending) → ending ≢ Usage
-    → Reason (Some command) found input out ending → (Rose input.before input.now → ⊥) → (Rose out.before out.now → ⊥)
+    → Reason (Some command) found input out ending → (reads_input (Some command) ≡ true → Rose input.before input.now → ⊥) → (Rose out.before out.now → ⊥)
     → IfSome (answer_for (Some command) found) (λ answer. (status_of ending ≡ answer_status answer) ⊎ (status_of ending ≡ 6))
-exact command found input out ReadFault form reason read write = absurd (read reason)
+exact command found input out ReadFault form reason read write = absurd (read reason.0 reason.1)
 exact command found input out WriteFault form reason read write = absurd (write reason.0)
 exact command found input out Memory form reason read write =
     if_some (answer_for (Some command) found) (λ answer. Unit {0}) (λ answer. (6 ≡ answer_status answer) ⊎ (6 ≡ 6)) (λ answer is. inr refl)
@@ -204,11 +205,17 @@ exact command found input out (NotPatched entry kind) form reason read write =
 exact command found input out (NotRead refused) form reason read write =
     either (answer_for (Some command) found) 9 (judged command found input out (NotRead refused) form reason (λ e. omega (arith, e)) (λ e. omega (arith, e)) (λ e. omega (arith, e)))
 
+-- a machine that is made from a number is never what a run ends for
+abbrev pub EndsAsMade : Command → Ending → Type 0
+EndsAsMade command ending =
+    (seed cores : ℕ) → Some command ≡ Some (Demo seed cores) → (status_of ending ≡ 0) ⊎ ((5 ≤ status_of ending) × (status_of ending ≤ 6))
+
 -- a run of a command
 pub promised : (words : List (List ℕ)) (command : Command) (input out err : Change) (machines : List World) (ending : Ending)
     → command_of words ≡ Some command → Performs command (document_for (Some command) input.old) input out machines ending
+    → (reads_input (Some command) ≡ false → Keeps input.old input.new) → EndsAsMade command ending
     → Tells ending err.old err.new err.before err.now → Promises words input out err machines (status_of ending)
-promised words command input out err machines ending is does told =
+promised words command input out err machines ending is does unread made told =
     let found : Option (Result Document Refusal) = document_for (Some command) input.old in
     let at : (e : Ending) → ending ≡ e → Reason (Some command) found input out e =
     λ e same. subst (λ (x : Ending). Reason (Some command) found input out x) same does.reason in record {
@@ -217,13 +224,13 @@ promised words command input out err machines ending is does told =
       reason = rw is does.reason;
       told = told;
       usage = (λ two. absurd (does.form (usage_of ending two)), λ none. absurd (let no : ⊥ = cc in no));
-      unread = λ two. absurd (does.form (usage_of ending two));
+      unread = rw is unread;
       done = λ zero. rw is (at Done (done_of ending zero));
       safe = λ zero. rw is (does.safe (done_of ending zero));
       refused = λ three. rw is
           (let refusal = refused_of ending three in
           if_some found (λ one. one ≡ Err refusal.0) IsErr (λ one same. rw same refl) (at (Refused refusal.0) refusal.1));
-      read_fault = λ four. at ReadFault (read_fault_of ending four);
+      read_fault = λ four. rw is (at ReadFault (read_fault_of ending four));
       write_fault = λ five. rw is (at WriteFault (write_fault_of ending five));
       stopped = λ seven. rw is
           (let halt = panicked_of ending seven in
@@ -240,8 +247,9 @@ promised words command input out err machines ending is does told =
       machine = λ has. rw is (does.machine has);
       no_machine = λ two four. does.no_machine four (λ same. omega (arith, two, ap status_of same));
       judged = λ read write memory. rw is (judged command found input out ending does.form does.reason read write memory);
-      exact = λ read write. rw is (exact command found input out ending does.form does.reason read write);
+      exact = λ read write. rw is (exact command found input out ending does.form does.reason (λ reads. read (rw is reads)) write);
       statuses = statuses ending;
+      demo = λ seed cores same. made seed cores (sym is ∙ same);
     }
 
 keeps : (bytes : Option (List ℕ)) → Keeps bytes bytes
@@ -259,7 +267,7 @@ promised_nothing words input out err machines is same_input same_out none told =
       reason = (is, kept);
       told = told;
       usage = (λ two. is, λ none. refl);
-      unread = λ two. kept;
+      unread = λ none. kept;
       done = λ zero. absurd (omega (arith, zero));
       safe = λ zero. absurd (omega (arith, zero));
       refused = λ three. absurd (omega (arith, three));
@@ -274,4 +282,5 @@ promised_nothing words input out err machines is same_input same_out none told =
       judged = λ read write memory. rw is refl;
       exact = λ read write. rw is (inl refl);
       statuses = inr (lit≤ tt, lit≤ tt);
+      demo = λ seed cores same. absurd (let no : ⊥ = cc in no);
     }

@@ -1,10 +1,10 @@
 -- The forms of the command line. They are this project's own.
-use Rattle.std.specs.Prelude.{ℕ, ◌&&◌, nat_eq, nat_lt, if◌then◌else◌, List, [], ◌∷◌, length, drop, codes, Option, Some, None}
+use Rattle.std.specs.Prelude.{ℕ, ◌-◌, ◌^◌, ◌&&◌, ◌||◌, nat_eq, nat_lt, if◌then◌else◌, List, [], ◌∷◌, length, drop, codes, Option, Some, None}
 use Rattle.std.specs.List.{starts_with}
 use Rattle.std.specs.Str.{bytes_eq}
 use Rattle.armcaps_lex.specs.Digits.{digits_number}
 use Rattle.armcaps_top.specs.declared.commands.Command.{Command}
-use Rattle.armcaps_top.specs.declared.commands.Command.TheVariants.{Ask, Patch}
+use Rattle.armcaps_top.specs.declared.commands.Command.TheVariants.{Ask, Patch, Demo}
 use Rattle.armcaps_top.specs.declared.commands.Query.TheVariants.{Report, Mrs, Trace}
 
 -- the number of a core: 1 to 9 decimal digits
@@ -22,6 +22,29 @@ mrs_of (Some core) (Some word) = Some (Ask (Mrs core word))
 mrs_of None word = None
 mrs_of (Some core) None = None
 
+-- a number that is neither below the first of these nor above the second
+abbrev pub within : ℕ → ℕ → Option ℕ → Option ℕ
+within least most None = None
+within least most (Some number) = if nat_lt number least || nat_lt most number then None else Some number
+
+-- a number of at most so many decimal digits, within these bounds
+abbrev pub bounded_number : ℕ → ℕ → ℕ → List ℕ → Option ℕ
+bounded_number digits least most text = if nat_lt digits (length text) then None else within least most (digits_number 10 text)
+
+-- a seed: 1 to 10 decimal digits, below 2^32
+abbrev pub seed_number : List ℕ → Option ℕ
+seed_number text = bounded_number 10 0 (2 ^ 32 - 1) text
+
+-- a number of cores: 1 or 2 decimal digits, from 1 to 64
+abbrev pub cores_number : List ℕ → Option ℕ
+cores_number text = bounded_number 2 1 64 text
+
+-- `demo` of this seed and so many cores, where both are written as they should be
+abbrev pub demo_of : Option ℕ → Option ℕ → Option Command
+demo_of (Some seed) (Some cores) = Some (Demo seed cores)
+demo_of None cores = None
+demo_of (Some seed) None = None
+
 -- the command of one word
 abbrev pub command_named : List ℕ → Option Command
 command_named name =
@@ -30,11 +53,12 @@ command_named name =
     else if bytes_eq name (codes "trace") then Some (Ask Trace) else None
 
 -- the command of a name and two arguments
-abbrev pub command_of_two : List ℕ → List ℕ → List ℕ → Option Command
+unfoldable pub command_of_two : List ℕ → List ℕ → List ℕ → Option Command
 command_of_two name first second =
-    if bytes_eq name (codes "mrs") then mrs_of (core_number first) (instruction_word second) else None
+    if bytes_eq name (codes "mrs") then mrs_of (core_number first) (instruction_word second)
+    else if bytes_eq name (codes "demo") then demo_of (seed_number first) (cores_number second) else None
 
--- the command that words are a form of: `report`, `patch`, `mrs CORE WORD` or `trace`
+-- the command that words are a form of: `report`, `patch`, `mrs CORE WORD`, `demo SEED CORES` or `trace`
 unfoldable pub command_of : List (List ℕ) → Option Command
 command_of [] = None
 command_of (name ∷ []) = command_named name

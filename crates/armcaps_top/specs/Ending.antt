@@ -28,7 +28,7 @@ halt_text halt = codes "core " ++ decimal halt.core ++ codes ": " ++ cause_text 
 -- the text of an ending, which follows `armcaps: `
 unfoldable pub ending_text : Ending → List ℕ
 ending_text Done = []
-ending_text Usage = codes "usage: armcaps report | patch | mrs CORE WORD | trace"
+ending_text Usage = codes "usage: armcaps report | patch | mrs CORE WORD | demo SEED CORES | trace"
 ending_text (Refused refusal) = refused_text refusal
 ending_text ReadFault = codes "read fault"
 ending_text WriteFault = codes "write fault"

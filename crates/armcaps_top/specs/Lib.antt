@@ -3,6 +3,7 @@ pub mod Commands
 pub mod Mrs
 pub mod Trace
 pub mod Patch
+pub mod Demo
 pub mod Output
 pub mod Ending
 pub mod Telling

@@ -1,5 +1,5 @@
 -- What a run does with its words and its input. Words, statuses and texts are this project's own.
-use Rattle.std.specs.Prelude.{◌≡◌, ◌≢◌, ◌↔◌, ◌⊎◌, ◌==◌, ◌||◌, ◌≤◌, ℕ, Bool, true, List, [], ◌∷◌, Option, None, Some, Result, Ok, Err, IfSome, IsSome}
+use Rattle.std.specs.Prelude.{◌≡◌, ◌≢◌, ◌↔◌, ◌⊎◌, ◌==◌, ◌||◌, ◌≤◌, ℕ, Bool, true, false, List, [], ◌∷◌, Option, None, Some, Result, Ok, Err, IfSome, IsSome}
 use Rattle.std.specs.Option.{option_map}
 use Rattle.std.specs.Result.{IsOkAnd, IsErr}
 use Rattle.armcaps_tables.specs.Core.{Core}
@@ -14,13 +14,14 @@ use Rattle.armcaps_boot.specs.World.{World}
 use Rattle.armcaps_io.specs.Causes.{Rose}
 use Rattle.armcaps_io.specs.Streams.{Appends, AppendsPrefix, Keeps}
 use Rattle.armcaps_top.specs.Commands.{command_of}
+use Rattle.armcaps_top.specs.Demo.{demo_output, generated_document}
 use Rattle.armcaps_top.specs.Document.{Document, document}
 use Rattle.armcaps_top.specs.Ending.{status_of}
 use Rattle.armcaps_top.specs.Output.{board_of, output_of, unless_stopped}
 use Rattle.armcaps_top.specs.Patch.{patch_output}
 use Rattle.armcaps_top.specs.Telling.{Tells}
 use Rattle.armcaps_top.specs.declared.commands.Command.{Command}
-use Rattle.armcaps_top.specs.declared.commands.Command.TheVariants.{Ask, Patch}
+use Rattle.armcaps_top.specs.declared.commands.Command.TheVariants.{Ask, Patch, Demo}
 use Rattle.armcaps_top.specs.declared.commands.mrs.ReadRefused.{ReadRefused}
 use Rattle.armcaps_top.specs.declared.ending.Ending.{Ending}
 use Rattle.armcaps_top.specs.declared.ending.Ending.TheVariants.{Done, Usage, Refused, ReadFault, WriteFault, Memory, Panicked, NotPatched, NotRead}
@@ -42,16 +43,26 @@ admitted_in found = admitted_of (board_of found.reading) (steps_of found)
 abbrev pub output_in : Command → Document → Result (List ℕ) Ending
 output_in (Ask query) found = output_of query (board_of found.reading) (steps_of found)
 output_in Patch found = patch_output (board_of found.reading) (steps_of found) found.reading found.image
+output_in (Demo seed cores) found = Ok (demo_output seed cores (board_of found.reading) (steps_of found) found.reading found.image)
 
 -- what is written of a document, or why an input is none
 abbrev pub written_of : Command → Result Document Refusal → Result (List ℕ) Ending
 written_of command (Ok found) = unless_stopped (halt_in found) (output_in command found)
 written_of command (Err refusal) = Err (Refused refusal)
 
--- what a command works on: the document that the input is, where its bytes are told
+-- the command reads the input
+abbrev pub reads_input : Option Command → Bool
+reads_input None = false
+reads_input (Some (Ask query)) = true
+reads_input (Some Patch) = true
+reads_input (Some (Demo seed cores)) = false
+
+-- what a command works on: the document that the input is, where its bytes are told; `demo` on one that is made from its words alone
 abbrev pub document_for : Option Command → Option (List ℕ) → Option (Result Document Refusal)
 document_for None input = None
-document_for (Some command) input = option_map document input
+document_for (Some (Ask query)) input = option_map document input
+document_for (Some Patch) input = option_map document input
+document_for (Some (Demo seed cores)) input = Some (Ok (generated_document seed cores))
 
 -- what is written under a command of what it works on, or else how the run ends
 abbrev pub answer_for : Option Command → Option (Result Document Refusal) → Option (Result (List ℕ) Ending)
@@ -87,10 +98,10 @@ IsReadWhole input = IfSome input.old (λ bytes. input.new ≡ Some [])
 
 -- why a run ends so under a command that works on this
 abbrev pub Reason : Option Command → Option (Result Document Refusal) → Change → Change → Ending → Type 0
-Reason command found input out Done = Writes (answer_for command found) out × IsReadWhole input
+Reason command found input out Done = Writes (answer_for command found) out × (reads_input command ≡ true → IsReadWhole input)
 Reason command found input out Usage = (command ≡ None) × Keeps input.old input.new
 Reason command found input out (Refused refusal) = IfSome found (λ one. one ≡ Err refusal)
-Reason command found input out ReadFault = Rose input.before input.now
+Reason command found input out ReadFault = (reads_input command ≡ true) × Rose input.before input.now
 Reason command found input out WriteFault = Rose out.before out.now × WritesPrefix (answer_for command found) out
 Reason command found input out Memory = Unit {0}
 Reason command found input out (Panicked halt) = IsDocumentAnd found (λ one. halt_in one ≡ Some halt)
@@ -126,18 +137,20 @@ pub record Promises (words : List (List ℕ)) (input out err : Change) (machines
   pub status_is : status ≡ status_of ending
   pub reason : Reason (command_of words) (document_for (command_of words) input.old) input out ending
   pub told : Tells ending err.old err.new err.before err.now
-  -- the words are no form, and the input is as it was
+  -- the words are no form
   pub usage : (status ≡ 2) ↔ (command_of words ≡ None)
-  pub unread : status ≡ 2 → Keeps input.old input.new
-  -- the whole input was read, it is a document, and the output got what the command writes of it and nothing else
-  pub done : status ≡ 0 → Writes (answer_for (command_of words) (document_for (command_of words) input.old)) out × IsReadWhole input
+  -- where they are none, and where the command reads no input, the input is as it was
+  pub unread : reads_input (command_of words) ≡ false → Keeps input.old input.new
+  -- the output got what the command writes of the document that it works on, and nothing else; a command that reads read the whole input
+  pub done : status ≡ 0 → Writes (answer_for (command_of words) (document_for (command_of words) input.old)) out
+      × (reads_input (command_of words) ≡ true → IsReadWhole input)
   -- of that document: each enabled system feature is had by every admitted core, each workaround that an admitted core needs is
   -- enabled, and a core with steps is admitted, or parked by its first cause
   pub safe : status ≡ 0 → IsDocumentAnd (document_for (command_of words) input.old) (λ found. IsSafe (board_of found.reading) (steps_of found))
   -- the input's bytes are no document
   pub refused : status ≡ 3 → IfSome (document_for (command_of words) input.old) IsErr
-  -- the input, or the output, failed in this call; the output got a first part of what the command writes
-  pub read_fault : status ≡ 4 → Rose input.before input.now
+  -- the input, which the command reads, or the output, failed in this call; the output got a first part of what the command writes
+  pub read_fault : status ≡ 4 → (reads_input (command_of words) ≡ true) × Rose input.before input.now
   pub write_fault : status ≡ 5 → Rose out.before out.now × WritesPrefix (answer_for (command_of words) (document_for (command_of words) input.old)) out
   -- the input is a document of which a step stops the machine
   pub stopped : status ≡ 7 → IsDocumentAnd (document_for (command_of words) input.old) (λ found. IsSome (halt_in found))
@@ -153,7 +166,9 @@ pub record Promises (words : List (List ℕ)) (input out err : Change) (machines
   -- each status but 4, 5 and 6 is that of the answer
   pub judged : status ≢ 4 → status ≢ 5 → status ≢ 6
       → IfSome (answer_for (command_of words) (document_for (command_of words) input.old)) (λ answer. status ≡ answer_status answer)
-  -- and it is where neither stream failed, unless there was no memory
-  pub exact : (Rose input.before input.now → ⊥) → (Rose out.before out.now → ⊥)
+  -- and it is so where neither the output failed nor an input that is read, unless there was no memory
+  pub exact : (reads_input (command_of words) ≡ true → Rose input.before input.now → ⊥) → (Rose out.before out.now → ⊥)
       → IfSome (answer_for (command_of words) (document_for (command_of words) input.old)) (λ answer. (status ≡ answer_status answer) ⊎ (status ≡ 6))
   pub statuses : (status ≡ 0) ⊎ ((2 ≤ status) × (status ≤ 9))
+  -- under `demo` 0, 5 and 6 alone come
+  pub demo : (seed cores : ℕ) → command_of words ≡ Some (Demo seed cores) → (status ≡ 0) ⊎ ((5 ≤ status) × (status ≤ 6))

@@ -1,5 +1,5 @@
 -- The line that an ending has on the error stream. Its text is this project's own.
-use Rattle.std.specs.Prelude.{◌≡◌, ◌≢◌, ℕ, ◌≤◌, List, [], ◌∷◌, ◌++◌, Option, codes}
+use Rattle.std.specs.Prelude.{◌≡◌, ◌≢◌, ℕ, List, [], ◌∷◌, ◌++◌, Option, codes}
 use Rattle.armcaps_io.specs.Causes.{Rose}
 use Rattle.armcaps_io.specs.Streams.{Keeps, Appends, AppendsPrefix}
 use Rattle.armcaps_top.specs.declared.ending.Ending.{Ending}
@@ -16,4 +16,3 @@ pub record Tells (ending : Ending) (old new : Option (List ℕ)) (before now : �
   pub quiet : ending ≡ Done → Keeps old new
   pub whole : ending ≢ Done → (Rose before now → ⊥) → Appends old new (ending_line ending)
   pub part : ending ≢ Done → AppendsPrefix old new (ending_line ending)
-  pub count : before ≤ now

@@ -7,8 +7,10 @@ ghost use Rattle.armcaps_boot.specs.Order.{is_complete};
 ghost use Rattle.armcaps_top.specs.Bringing.{IsAt, board_in};
 ghost use Rattle.armcaps_top.specs.Inside.{IsInstead};
 ghost use Rattle.armcaps_top.specs.Output.{output_after};
-ghost use Rattle.armcaps_top.specs.Commands.{command_named, command_of, command_of_two, core_number, instruction_word};
+ghost use Rattle.armcaps_top.specs.Commands.{bounded_number, command_named, command_of, command_of_two, core_number, demo_of, instruction_word, mrs_of};
+ghost use Rattle.armcaps_top.specs.Commands.{cores_number, seed_number};
 
+pub mod demo;
 pub mod mrs;
 pub mod patch;
 pub mod report;
@@ -37,6 +39,8 @@ pub enum Command {
     Ask(Query),
     /// The image, patched for the machine.
     Patch,
+    /// What comes of a machine with so many cores and of its image, both made from a seed.
+    Demo { seed: u32, cores: u32 },
 }
 
 impl Command {
@@ -87,15 +91,49 @@ fn command_named(name: &str) -> Option<Command>
 }
 
 // The command of a name and two arguments.
+#[tactic(auto, unfolding(crate::specs::Commands::command_of_two))]
 fn command_of_two(name: &str, first: &str, second: &str) -> Option<Command>
     ensures { result ≡ command_of_two name.now first.now second.now }
 {
-    if name != "mrs" {
+    if name == "mrs" {
+        mrs_of(first.as_bytes(), second.as_bytes())
+    } else if name == "demo" {
+        demo_of(first.as_bytes(), second.as_bytes())
+    } else {
+        None
+    }
+}
+
+// `mrs` of a core and an instruction.
+fn mrs_of(first: &[u8], second: &[u8]) -> Option<Command>
+    ensures { result ≡ mrs_of (core_number first.now) (instruction_word second.now) }
+{
+    let core = core_number(first)?;
+    let word = instruction_word(second)?;
+    Some(Command::Ask(Query::Mrs { core, word }))
+}
+
+// `demo` of a seed and a number of cores.
+fn demo_of(first: &[u8], second: &[u8]) -> Option<Command>
+    ensures { result ≡ demo_of (seed_number first.now) (cores_number second.now) }
+{
+    let seed = bounded_number(10, 0, u32::MAX, first)?;
+    let cores = bounded_number(2, 1, 64, second)?;
+    Some(Command::Demo { seed, cores })
+}
+
+// A number of at most so many decimal digits, within these bounds.
+fn bounded_number(digits: usize, least: u32, most: u32, text: &[u8]) -> Option<u32>
+    ensures { result ≡ bounded_number digits least most text.now }
+{
+    if digits < text.len() {
         return None;
     }
-    let core = core_number(first.as_bytes())?;
-    let word = instruction_word(second.as_bytes())?;
-    Some(Command::Ask(Query::Mrs { core, word }))
+    let number = decimal(text)?;
+    if number < u64::from(least) || u64::from(most) < number {
+        return None;
+    }
+    Some(number as u32)
 }
 
 // The number of a core: 1 to 9 decimal digits.

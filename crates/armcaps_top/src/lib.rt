@@ -3,6 +3,8 @@
 
 mod bringing;
 mod commands;
+#[cfg(test)]
+mod demo_tests;
 mod document;
 mod ending;
 pub mod laws;

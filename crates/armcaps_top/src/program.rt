@@ -1,6 +1,6 @@
 //! The program's one call.
 
-ghost use Rattle.std.specs.Prelude.{◌≡◌, ◌≢◌, ℕ, [], ◌∷◌, Ok, Err, None, IfOk, IfErr, ◌≤◌, drop, length, map, string_bytes};
+ghost use Rattle.std.specs.Prelude.{◌≡◌, ◌≢◌, ◌⊎◌, ℕ, [], ◌∷◌, Ok, Err, Some, None, IfOk, IfErr, ◌≤◌, drop, length, map, string_bytes};
 ghost use Rattle.armcaps_boot.specs.After.{IsAfter};
 ghost use Rattle.armcaps_boot.specs.Admission.{halt_of, steps_made};
 ghost use Rattle.armcaps_boot.specs.Findings.{findings_after};
@@ -15,10 +15,13 @@ ghost use Rattle.armcaps_text.specs.Sound.{IsSound};
 ghost use Rattle.armcaps_top.specs.Inside.{IsInstead, LeavesAfter, Performs};
 ghost use Rattle.armcaps_top.specs.Output.{board_of, output_after, unless_stopped};
 ghost use Rattle.armcaps_top.specs.Patch.{patch_output};
+ghost use Rattle.armcaps_top.specs.Demo.{generated_document};
 ghost use Rattle.armcaps_top.specs.Document.{document};
+ghost use Rattle.armcaps_top.specs.Ending.{status_of};
 ghost use Rattle.std.specs.Option.{option_map};
-ghost use Rattle.armcaps_top.specs.Run.{Promises};
+ghost use Rattle.armcaps_top.specs.Run.{Change, Promises};
 
+use crate::commands::demo::demo_answer;
 use crate::commands::patch::patch_plan;
 use crate::commands::{Command, Query};
 use crate::document::machine_of;
@@ -177,15 +180,43 @@ fn patch_image<S: Source, O: Sink>(
     }
 }
 
+// Makes a machine and its image from a seed, brings the machine up, and writes what comes of both. Nothing is read.
+fn demo<O: Sink>(
+    alloc: Global,
+    seed: u32,
+    cores: u32,
+    out: &mut O,
+    machines: &mut Vec<Boot>,
+) -> Ending
+    requires some { 1 ≤ cores }
+    requires few { cores ≤ 64 }
+    requires none { machines.old.items ≡ [] }
+    ensures performs { (input : Change) → Performs (Command.Demo seed cores) (Some (Ok (generated_document seed cores))) input
+        (record { old = O.held out.old; new = O.held out.new; before = O.faults out.old; now = O.faults out.new })
+        machines.new.items result }
+    ensures ends { (status_of result ≡ 0) ⊎ ((5 ≤ status_of result) × (status_of result ≤ 6)) }
+{
+    let text = match demo_answer(alloc, seed, cores, machines) {
+        Ok(text) => text,
+        Err(_) => return Ending::Memory,
+    };
+    match write_whole(out, text.as_bytes()) {
+        Ok(()) => Ending::Done,
+        Err(_) => Ending::WriteFault,
+    }
+}
+
 /// Runs the program: `words` is the command line without the program's name. Where they are `report`, `patch`,
-/// `mrs CORE WORD` or `trace`, reads a document from `input`, makes its steps and writes to `out` the report, the image patched for
-/// the machine, what a program on the core reads by the instruction, or the trace of the steps. Every other status than 0 has a line on `err`. `machines` has to be empty, and gets the
-/// machine that was brought up: one in the statuses 0, 5 and 7 to 9, and none in 2 to 4.
+/// `mrs CORE WORD` or `trace`, reads a document from `input`, makes its steps and writes to `out` the report, the image
+/// patched for the machine, what a program on the core reads by the instruction, or the trace of the steps. Where they
+/// are `demo SEED CORES`, reads nothing, makes a machine and its image from the seed, and writes what comes of both:
+/// only the statuses 0, 5 and 6 come. Every other status than 0 has a line on `err`. `machines` has to be empty, and
+/// gets the machine that was brought up: one in the statuses 0, 5 and 7 to 9, and none in 2 to 4.
 ///
 /// - 0: done.
 /// - 2: the words are no form. They are judged without memory, and nothing is read.
-/// - 3: the input is no document: a line of its text is refused, it has more bytes than its format allows (135,266,304, or
-///   537,919,488 in format 2), or fewer or more bytes follow the text than the image has.
+/// - 3: the input is no document: a line of its text is refused, it has more bytes than its format allows (135,266,304,
+///   or 537,919,488 in format 2), or fewer or more bytes follow the text than the image has.
 /// - 4: `input` failed.
 /// - 5: `out` failed, and has a first part of the output.
 /// - 6: there was no memory, before the first byte to `out`.
@@ -210,6 +241,7 @@ pub fn run<S: Source, O: Sink, E: Sink>(
     let ending = match Command::of(words) {
         Some(Command::Ask(query)) => answer_query(alloc, query, input, out, machines),
         Some(Command::Patch) => patch_image(alloc, input, out, machines),
+        Some(Command::Demo { seed, cores }) => demo(alloc, seed, cores, out, machines),
         None => Ending::Usage,
     };
     tell(err, ending);

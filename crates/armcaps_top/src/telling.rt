@@ -307,7 +307,9 @@ fn add_text(line: &mut ArrayString<256>, ending: Ending)
 {
     match ending {
         Ending::Done => {}
-        Ending::Usage => line.push_str("usage: armcaps report | patch | mrs CORE WORD | trace"),
+        Ending::Usage => line.push_str(
+            "usage: armcaps report | patch | mrs CORE WORD | demo SEED CORES | trace",
+        ),
         Ending::Refused(refusal) => add_refusal(line, refusal),
         Ending::ReadFault => line.push_str("read fault"),
         Ending::WriteFault => line.push_str("write fault"),

@@ -9,7 +9,8 @@ const ONE_CORE: &str = "armcaps 1\ncore 0\nid_aa64isar0_el1 0x11120\nboot 0\nfin
 const ONE_CORE_REPORT: &str =
     "armcaps report 1\ncore 0 boot\nreg id_aa64pfr0_el1 0x0000000000000000\nreg id_aa64pfr1_el1 0x0000000000000000\nreg id_aa64zfr0_el1 0x0000000000000000\nreg id_aa64smfr0_el1 0x0000000000000000\nreg id_aa64dfr0_el1 0x0000000000000000\nreg id_aa64isar0_el1 0x0000000000011120\nreg id_aa64isar1_el1 0x0000000000000000\nreg id_aa64isar2_el1 0x0000000000000000\nreg id_aa64mmfr0_el1 0x0000000000000000\nreg id_aa64mmfr1_el1 0x0000000000000000\nreg id_aa64mmfr2_el1 0x0000000000000000\nreg id_aa64mmfr3_el1 0x0000000000000000\nreg ctr_el0 0x0000000000000000\nreg dczid_el0 0x0000000000000000\nuser id_aa64pfr0_el1 0x0000000000000011\nuser id_aa64pfr1_el1 0x0000000000000000\nuser id_aa64zfr0_el1 0x0000000000000000\nuser id_aa64smfr0_el1 0x0000000000000000\nuser id_aa64dfr0_el1 0x0000000000000006\nuser id_aa64isar0_el1 0x0000000000011120\nuser id_aa64isar1_el1 0x0000000000000000\nuser id_aa64isar2_el1 0x0000000000000000\nuser id_aa64mmfr0_el1 0x00000000ff000000\nuser id_aa64mmfr1_el1 0x0000000000000000\nuser id_aa64mmfr2_el1 0x0000000000000000\nuser id_aa64mmfr3_el1 0x0000000000000000\nuser ctr_el0 0x0000000000000000\nuser dczid_el0 0x0000000000000000\ncap 0 ALWAYS_BOOT\ncap 1 ALWAYS_SYSTEM\ncap 8 HAS_CRC32\ncap 41 HAS_FPSIMD\nhwcap 0x00000000000008fb\nhwcap2 0x0000000000000000\nflags fp asimd aes pmull sha1 sha2 crc32 cpuid\nend\n";
 
-const USAGE: &str = "armcaps: usage: armcaps report | patch | mrs CORE WORD | trace\n";
+const USAGE: &str =
+    "armcaps: usage: armcaps report | patch | mrs CORE WORD | demo SEED CORES | trace\n";
 
 /// What a run answers, writes and leaves.
 #[derive(Drop)]

@@ -1,0 +1,50 @@
+-- The cores of `demo` are 1 to 64.
+use Rattle.std.proofs.Common.{◌≡◌, ℕ, ◌≤◌, Bool, true, false, cond, nat_lt, List, [], ◌∷◌, length, codes, Option, Some, None, arith}
+use Rattle.std.specs.Str.{bytes_eq}
+use Rattle.std.proofs.lemmas.Bool.Decides.{nat_tests}
+use Rattle.armcaps_lex.specs.Digits.{digits_number}
+use Rattle.armcaps_top.specs.Commands.{command_of, command_of_two, core_number, cores_number, demo_of, instruction_word, mrs_of, seed_number, within}
+use Rattle.armcaps_top.specs.declared.commands.Command.TheVariants.{Ask, Patch, Demo}
+use Rattle.armcaps_top.specs.declared.commands.Query.TheVariants.{Report, Trace}
+
+within_is : (found : Option ℕ) (least most number : ℕ) → within least most found ≡ Some number → (least ≤ number) × (number ≤ most)
+within_is None least most number is = absurd (let no : ⊥ = cc in no)
+within_is (Some found) least most number is = (grind (arith, nat_tests), grind (arith, nat_tests))
+
+bounded : (long : Bool) (found : Option ℕ) (least most number : ℕ) → cond long None (within least most found) ≡ Some number → (least ≤ number) × (number ≤ most)
+bounded true found least most number is = absurd (let no : ⊥ = cc in no)
+bounded false found least most number is = within_is found least most number is
+
+of_demo : (first second : Option ℕ) (seed cores : ℕ) → demo_of first second ≡ Some (Demo seed cores) → second ≡ Some cores
+of_demo (Some first) (Some second) seed cores is = cc
+of_demo None second seed cores is = absurd (let no : ⊥ = cc in no)
+of_demo (Some first) None seed cores is = absurd (let no : ⊥ = cc in no)
+
+of_mrs : (core word : Option ℕ) (seed cores : ℕ) → mrs_of core word ≡ Some (Demo seed cores) → ⊥
+of_mrs (Some core) (Some word) seed cores is = cc
+of_mrs None word seed cores is = cc
+of_mrs (Some core) None seed cores is = cc
+
+of_one : (report patch trace : Bool) (seed cores : ℕ)
+    → cond report (Some (Ask Report)) (cond patch (Some Patch) (cond trace (Some (Ask Trace)) None)) ≡ Some (Demo seed cores) → ⊥
+of_one true patch trace seed cores is = cc
+of_one false true trace seed cores is = cc
+of_one false false true seed cores is = cc
+of_one false false false seed cores is = cc
+
+of_two : (mrs demo : Bool) (core word first second : Option ℕ) (seed cores : ℕ)
+    → cond mrs (mrs_of core word) (cond demo (demo_of first second) None) ≡ Some (Demo seed cores) → second ≡ Some cores
+of_two true demo core word first second seed cores is = absurd (of_mrs core word seed cores is)
+of_two false true core word first second seed cores is = of_demo first second seed cores is
+of_two false false core word first second seed cores is = absurd (let no : ⊥ = cc in no)
+
+pub cores_are : (words : List (List ℕ)) (seed cores : ℕ) → command_of words ≡ Some (Demo seed cores) → (1 ≤ cores) × (cores ≤ 64)
+unfolding command_of command_of_two
+cores_are [] seed cores is = absurd (let no : ⊥ = cc in no)
+cores_are (name ∷ []) seed cores is =
+    absurd (of_one (bytes_eq name (codes "report")) (bytes_eq name (codes "patch")) (bytes_eq name (codes "trace")) seed cores is)
+cores_are (name ∷ first ∷ []) seed cores is = absurd (let no : ⊥ = cc in no)
+cores_are (name ∷ first ∷ second ∷ []) seed cores is =
+    bounded (nat_lt 2 (length second)) (digits_number 10 second) 1 64 cores
+    (of_two (bytes_eq name (codes "mrs")) (bytes_eq name (codes "demo")) (core_number first) (instruction_word second) (seed_number first) (cores_number second) seed cores is)
+cores_are (name ∷ first ∷ second ∷ third ∷ more) seed cores is = absurd (let no : ⊥ = cc in no)

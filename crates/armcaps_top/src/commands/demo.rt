@@ -1,0 +1,345 @@
+//! `demo SEED CORES`: what comes of a machine and its image that are made from a number.
+
+ghost use Rattle.std.specs.Prelude.{◌≡◌, ◌+◌, ◌*◌, ◌/◌, ◌<◌, ◌≤◌, ◌^◌, [], cond, Some, None, Ok, true, IfOk, length, string_bytes};
+ghost use Rattle.armcaps_alt.specs.Bytes.{word_in};
+ghost use Rattle.armcaps_alt.specs.Entries.{Features, entry_at, is_selected, is_there, selected_of};
+ghost use Rattle.armcaps_alt.specs.Names.{IsKnown};
+ghost use Rattle.armcaps_alt.specs.Patched.{patched_image};
+ghost use Rattle.armcaps_alt.specs.Refusals.{first_refusal};
+ghost use Rattle.armcaps_alt.specs.declared.table_place.Layout.{Layout as Place};
+ghost use Rattle.armcaps_boot.specs.Findings.{findings_of};
+ghost use Rattle.armcaps_boot.specs.Outcome.{IsSafe};
+ghost use Rattle.armcaps_boot.specs.Safety.{is_enabled};
+ghost use Rattle.armcaps_boot.specs.World.{state_at};
+ghost use Rattle.armcaps_patch.specs.Features.{features_of};
+ghost use Rattle.armcaps_patch.specs.Kept.{StandsFor};
+ghost use Rattle.armcaps_top.specs.Demo.{cores_that, counts_of, demo_lines, generated_document, is_changed, is_parked, is_running, sum_of_words, words_changed, words_covered};
+ghost use Rattle.armcaps_top.specs.Inside.{LeavesAfter};
+ghost use Rattle.armcaps_top.specs.Output.{board_of};
+ghost use Rattle.armcaps_top.specs.Run.{steps_of, written_of};
+
+use crate::bringing::bring_up;
+use crate::commands::Command;
+use armcaps_alt::{Entry, Layout, Named, Names};
+use armcaps_boot::laws::{documents_are_safe, machines_begin_with_no_step};
+use armcaps_boot::{Boot, CoreState, events_of};
+use armcaps_io::{Failed, Sink};
+use armcaps_patch::{PatchRefused, Plan};
+use armcaps_text::generate;
+use armcaps_text::laws::{generated_images_are_not_refused, generated_machines_are_sound};
+use byteorder::{ByteOrder, LittleEndian};
+use std::alloc::{AllocError, Global};
+use std::fmt::Write;
+
+/// What is counted of a machine and its image.
+#[derive(Clone, Copy)]
+pub struct Counts {
+    /// The cores that run.
+    pub running: u32,
+    /// The cores that are held back.
+    pub parked: u32,
+    /// The entries that are selected.
+    pub selected: u32,
+    /// The words that the sites of these cover.
+    pub covered: u32,
+    /// The words that are another in the patched image.
+    pub changed: u32,
+    /// The sum of the words of the patched image.
+    pub sum: u64,
+}
+
+// A sink that keeps its bytes in memory, and fails only where there is no more of it.
+#[derive(Drop)]
+struct Kept {
+    bytes: Vec<u8>,
+    faults: u64,
+}
+
+impl Sink for Kept {
+    ghost held = { λ s. Some s.bytes.items };
+
+    ghost faults = { λ s. s.faults };
+
+    fn write(&mut self, piece: &[u8]) -> Result<usize, Failed> {
+        match self.bytes.extend_from_slice(piece) {
+            Ok(()) => Ok(piece.len()),
+            Err(_) => {
+                self.faults = self.faults.saturating_add(1);
+                Err(Failed)
+            }
+        }
+    }
+}
+
+// The image that a plan makes.
+fn patched(alloc: Global, plan: &Plan, image: &[u8]) -> Result<Vec<u8>, AllocError>
+    requires { length image.now ≡ plan.now.size }
+    ensures { (features : Features) (layout : Place) → StandsFor plan.now features image.now layout
+        → IfOk result (λ bytes. bytes.items ≡ patched_image features image.now layout) }
+{
+    let mut sink = Kept {
+        bytes: Vec::with_capacity(alloc, image.len())?,
+        faults: 0,
+    };
+    match plan.write(image, &mut sink) {
+        Ok(()) => Ok(sink.bytes),
+        Err(_) => Err(AllocError),
+    }
+}
+
+// The word at an index.
+fn word(image: &[u8], index: usize) -> u32
+    requires { 4 * index + 4 ≤ length image.now }
+    ensures { result ≡ word_in image.now (4 * index) }
+{
+    LittleEndian::read_u32(&image[4 * index..])
+}
+
+// One where the word at an index differs in two images, and else none.
+fn changed(image: &[u8], patched: &[u8], index: usize) -> u32
+    requires image { 4 * index + 4 ≤ length image.now }
+    requires patched { 4 * index + 4 ≤ length patched.now }
+    ensures { result ≡ cond (is_changed image.now patched.now index) 1 0 }
+{
+    if word(patched, index) == word(image, index) {
+        0
+    } else {
+        1
+    }
+}
+
+// How many words differ in two images, and the sum of the second one's.
+fn compare(image: &[u8], patched: &[u8]) -> (u32, u64)
+    requires size { length image.now ≤ 2 ^ 29 }
+    requires same { length patched.now ≡ length image.now }
+    ensures changed { result.0 ≡ words_changed image.now patched.now }
+    ensures sum { result.1 ≡ sum_of_words patched.now }
+{
+    let mut different = 0;
+    let mut sum = 0;
+    for index in 0..image.len() / 4 {
+        different += changed(image, patched, index);
+        sum += u64::from(word(patched, index));
+    }
+    (different, sum)
+}
+
+// Whether what a number stands for is there.
+fn is_there(named: Named, boot: &Boot) -> bool
+    requires finalised { boot.now.final ≡ true }
+    requires known { IsKnown named }
+    ensures { result ≡ is_there (is_enabled boot.now) named }
+{
+    match named {
+        Named::Cap(number) => boot.enabled(number),
+        Named::Given(on) => on,
+    }
+}
+
+// Whether an entry is selected.
+fn is_selected(entry: &Entry, names: &Names, boot: &Boot) -> bool
+    requires finalised { boot.now.final ≡ true }
+    ensures { result ≡ is_selected (features_of boot.now names.now) entry.now }
+{
+    match names.find(entry.number) {
+        Some(named) => is_there(named, boot),
+        None => false,
+    }
+}
+
+// The entry of the table that has this number.
+fn entry_at(image: &[u8], layout: Layout, index: u32) -> Entry
+    requires size { length image.now ≤ 2 ^ 29 }
+    requires table { layout.table + 12 * layout.count ≤ length image.now }
+    requires index { index < layout.count }
+    ensures { result ≡ entry_at image.now layout index }
+{
+    let place = layout.table as usize + 12 * index as usize;
+    Entry::read(&image[place..], place as u64)
+}
+
+// One and the number of its site's words where the entry with this number is selected, and else none.
+fn selected(image: &[u8], layout: Layout, index: u32, names: &Names, boot: &Boot) -> (u32, u32)
+    requires size { length image.now ≤ 2 ^ 29 }
+    requires table { layout.table + 12 * layout.count ≤ length image.now }
+    requires index { index < layout.count }
+    requires finalised { boot.now.final ≡ true }
+    ensures one { result.0 ≡ cond (is_selected (features_of boot.now names.now) (entry_at image.now layout index)) 1 0 }
+    ensures words { result.1 ≡ cond (is_selected (features_of boot.now names.now) (entry_at image.now layout index)) ((entry_at image.now layout index).orig_len / 4) 0 }
+    ensures few { result.0 ≤ 1 }
+    ensures short { result.1 < 64 }
+{
+    let entry = entry_at(image, layout, index);
+    if is_selected(&entry, names, boot) {
+        (1, u32::from(entry.orig_len / 4))
+    } else {
+        (0, 0)
+    }
+}
+
+// How many entries are selected, and how many words their sites have.
+fn count_entries(image: &[u8], layout: Layout, names: &Names, boot: &Boot) -> (u32, u32)
+    requires size { length image.now ≤ 2 ^ 29 }
+    requires table { layout.table + 12 * layout.count ≤ length image.now }
+    requires few { layout.count ≤ 2 ^ 20 }
+    requires finalised { boot.now.final ≡ true }
+    ensures selected { result.0 ≡ length (selected_of (features_of boot.now names.now) image.now layout) }
+    ensures covered { result.1 ≡ words_covered (selected_of (features_of boot.now names.now) image.now layout) }
+{
+    let mut count = 0;
+    let mut covered = 0;
+    for index in 0..layout.count {
+        let (one, words) = selected(image, layout, index, names, boot);
+        count += one;
+        covered += words;
+    }
+    (count, covered)
+}
+
+// One for a core that runs, and one for a core that is held back.
+fn standing(state: CoreState) -> (u32, u32)
+    ensures running { result.0 ≡ cond (is_running state) 1 0 }
+    ensures parked { result.1 ≡ cond (is_parked state) 1 0 }
+{
+    match state {
+        CoreState::Admitted { .. } => (1, 0),
+        CoreState::Parked(_) => (0, 1),
+        CoreState::Absent
+        | CoreState::Checked(_)
+        | CoreState::Updated(_)
+        | CoreState::Offline { .. }
+        | CoreState::Panicked(_) => (0, 0),
+    }
+}
+
+// The state of a core.
+fn core_state(boot: &Boot, number: u32) -> CoreState
+    ensures { result ≡ state_at boot.now.states number }
+{
+    boot.state(number).unwrap_or(CoreState::Absent)
+}
+
+// How many cores run, and how many are held back.
+fn count_cores(boot: &Boot) -> (u32, u32)
+    ensures running { result.0 ≡ cores_that is_running (findings_of boot.now) }
+    ensures parked { result.1 ≡ cores_that is_parked (findings_of boot.now) }
+{
+    let mut running = 0;
+    let mut parked = 0;
+    for number in 0..boot.count() {
+        let (runs, held) = standing(core_state(boot, number));
+        running += runs;
+        parked += held;
+    }
+    (running, parked)
+}
+
+// What is counted of a machine and its image.
+#[tactic(auto, unfolding(crate::specs::Demo::counts_of))]
+fn counts_of(
+    alloc: Global,
+    boot: &Boot,
+    names: &Names,
+    image: &[u8],
+    layout: Layout,
+    plan: &Plan,
+) -> Result<Counts, AllocError>
+    requires size { length image.now ≤ 2 ^ 29 }
+    requires table { layout.table + 12 * layout.count ≤ length image.now }
+    requires few { layout.count ≤ 2 ^ 20 }
+    requires finalised { boot.now.final ≡ true }
+    requires stands { StandsFor plan.now (features_of boot.now names.now) image.now layout }
+    ensures { IfOk result (λ counts. counts ≡ counts_of (findings_of boot.now) (features_of boot.now names.now) image.now layout) }
+{
+    let (running, parked) = count_cores(boot);
+    let (selected, covered) = count_entries(image, layout, names, boot);
+    let new = patched(alloc, plan, image)?;
+    let (changed, sum) = compare(image, &new);
+    Ok(Counts {
+        running,
+        parked,
+        selected,
+        covered,
+        changed,
+        sum,
+    })
+}
+
+// The five lines.
+fn demo_lines(alloc: Global, seed: u32, cores: u32, counts: &Counts) -> Result<String, AllocError>
+    ensures { IfOk result (λ text. string_bytes text ≡ demo_lines seed cores counts.now) }
+{
+    let mut text = String::new(alloc);
+    write!(text, "armcaps demo {seed} {cores}\n")?;
+    write!(
+        text,
+        "admitted {} parked {}\n",
+        counts.running, counts.parked
+    )?;
+    write!(text, "entries 20000 selected {}\n", counts.selected)?;
+    write!(
+        text,
+        "words {} changed {}\n",
+        counts.covered, counts.changed
+    )?;
+    write!(text, "sum {}\n", counts.sum)?;
+    Ok(text)
+}
+
+// What is written of a machine that was brought up and its image, no entry of which is refused.
+fn demo_text(
+    alloc: Global,
+    seed: u32,
+    cores: u32,
+    boot: &Boot,
+    names: &Names,
+    image: &[u8],
+    layout: Layout,
+) -> Result<String, AllocError>
+    requires size { length image.now ≤ 2 ^ 29 }
+    requires table { layout.table + 12 * layout.count ≤ length image.now }
+    requires few { layout.count ≤ 2 ^ 20 }
+    requires finalised { boot.now.final ≡ true }
+    requires accepted { first_refusal (features_of boot.now names.now) image.now layout ≡ None }
+    ensures { IfOk result (λ text. string_bytes text
+        ≡ demo_lines seed cores (counts_of (findings_of boot.now) (features_of boot.now names.now) image.now layout)) }
+{
+    let plan = match Plan::check(alloc, image, layout, names, boot) {
+        Ok(plan) => plan,
+        Err(PatchRefused::Memory) => return Err(AllocError),
+        Err(PatchRefused::Entry { .. }) => unreachable!(),
+    };
+    let counts = counts_of(alloc, boot, names, image, layout, &plan)?;
+    demo_lines(alloc, seed, cores, &counts)
+}
+
+/// Makes a machine with so many cores and its image from a seed, brings the machine up and leaves it in `machines`,
+/// patches the image, and makes what is written of both.
+pub fn demo_answer(
+    alloc: Global,
+    seed: u32,
+    cores: u32,
+    machines: &mut Vec<Boot>,
+) -> Result<String, AllocError>
+    requires some { 1 ≤ cores }
+    requires few { cores ≤ 64 }
+    requires none { machines.old.items ≡ [] }
+    ensures output { IfOk result (λ text. written_of (Command.Demo seed cores) (Ok (generated_document seed cores)) ≡ Ok (string_bytes text)) }
+    ensures machine { IfOk result (λ text. let found = generated_document seed cores in LeavesAfter (board_of found.reading) (steps_of found) machines.new.items) }
+    ensures safe { IfOk result (λ text. let found = generated_document seed cores in IsSafe (board_of found.reading) (steps_of found)) }
+{
+    let (machine, image) = generate(alloc, seed, cores)?;
+    let events = events_of(alloc, &machine.steps)?;
+    let layout = machine.layout;
+    generated_machines_are_sound();
+    generated_images_are_not_refused();
+    machines_begin_with_no_step();
+    documents_are_safe();
+    let Ok(mut boot) = Boot::new(alloc, machine.cores, machine.boot, machine.overrides) else {
+        return Err(AllocError);
+    };
+    bring_up(&mut boot, &events);
+    let text = demo_text(alloc, seed, cores, &boot, &machine.names, &image, layout)?;
+    machines.push(boot)?;
+    Ok(text)
+}
