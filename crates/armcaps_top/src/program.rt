@@ -196,11 +196,11 @@ fn demo<O: Sink>(
         machines.new.items result }
     ensures ends { (status_of result ≡ 0) ⊎ ((5 ≤ status_of result) × (status_of result ≤ 6)) }
 {
-    let text = match demo_answer(alloc, seed, cores, machines) {
-        Ok(text) => text,
+    let lines = match demo_answer(alloc, seed, cores, machines) {
+        Ok(lines) => lines,
         Err(_) => return Ending::Memory,
     };
-    match write_whole(out, text.as_bytes()) {
+    match write_whole(out, lines.as_bytes()) {
         Ok(()) => Ending::Done,
         Err(_) => Ending::WriteFault,
     }
