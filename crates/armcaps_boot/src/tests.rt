@@ -336,7 +336,12 @@ fn orders_of_steps(rt: HostRuntime) -> Result<(), Fail> {
             &[
                 (Event::Check(2), Ok(Reply::Panicked(mte))),
                 (Event::Check(1), halted),
+                (Event::Local(2), halted),
+                (Event::Store(2), halted),
+                (Event::Offline(2), halted),
                 (Event::Finalise, halted),
+                (Event::Check(0), halted),
+                (Event::Check(5), halted),
             ],
             0x200,
             CoreState::Absent,
