@@ -2,9 +2,10 @@
 //! this file hands it the command line and the standard streams.
 #![tactic(auto)]
 
-ghost use Rattle.std.specs.Prelude.{◌≡◌, [], map, string_bytes};
+ghost use Rattle.std.specs.Prelude.{◌≡◌, [], false, map, string_bytes};
 ghost use Rattle.std.specs.Process.{exit_status};
-ghost use Rattle.armcaps_top.specs.Run.{Promises};
+ghost use Rattle.armcaps_top.specs.Commands.{command_of};
+ghost use Rattle.armcaps_top.specs.Run.{Promises, reads_input};
 
 use armcaps_boot::Boot;
 use armcaps_io::{RealSink, RealSource, Sink, Source};
@@ -23,7 +24,8 @@ fn exit<S: Source, O: Sink, E: Sink>(
     machines: &mut Vec<Boot>,
 ) -> ExitCode
     requires { machines.old.items ≡ [] }
-    ensures { Promises (map string_bytes words.now)
+    ensures untouched { reads_input (command_of (map string_bytes words.now)) ≡ false → input.new ≡ input.old }
+    ensures promises { Promises (map string_bytes words.now)
         (record { old = S.left input.old; new = S.left input.new; before = S.faults input.old; now = S.faults input.new })
         (record { old = O.held out.old; new = O.held out.new; before = O.faults out.old; now = O.faults out.new })
         (record { old = E.held err.old; new = E.held err.new; before = E.faults err.old; now = E.faults err.new })

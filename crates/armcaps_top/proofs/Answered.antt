@@ -4,7 +4,7 @@ use Rattle.std.specs.Prelude.{Result, Ok, Err, IfOk, reverse}
 use Rattle.std.specs.List.{flat_map}
 use Rattle.armcaps_boot.specs.declared.event.Event.{Event}
 use Rattle.armcaps_boot.specs.declared.halt.Halt.{Halt}
-use Rattle.armcaps_boot.specs.Admission.{Board, halt_of}
+use Rattle.armcaps_boot.specs.Admission.{Board, halt_of, steps_made}
 use Rattle.armcaps_boot.specs.After.{IsAfter}
 use Rattle.armcaps_boot.specs.First.{first_world}
 use Rattle.armcaps_boot.specs.Order.{in_order, is_complete}
@@ -13,7 +13,8 @@ use Rattle.armcaps_boot.specs.Steps.{events_of, history}
 use Rattle.armcaps_boot.specs.World.{World}
 use Rattle.armcaps_text.specs.Document.{Reading}
 use Rattle.armcaps_text.specs.Sound.{IsSound}
-use Rattle.armcaps_top.specs.Bringing.{IsAt, board_in}
+use Rattle.armcaps_top.specs.Bringing.{IsAt, IsBegun, board_in}
+use Rattle.armcaps_top.specs.Inside.{LeavesAfter}
 use Rattle.armcaps_top.specs.Output.{board_of, output_after, output_of, unless_stopped}
 use Rattle.armcaps_top.specs.declared.commands.Query.{Query}
 use Rattle.armcaps_top.specs.declared.ending.Ending.{Ending}
@@ -58,12 +59,26 @@ pub if_ok : {X : Type 0} (result : Result X Ending) (P Q : X → Type 0) → ((x
 if_ok (Ok x) P Q law holds = law x holds
 if_ok (Err ending) P Q law holds = tt
 
--- what was written of a machine is what is written of its reading
-pub carried : {A : Type 0} (P : Board → List Event → A) (reading : Reading) (events : List Event) (world : World) → events ≡ flat_map events_of reading.steps
-    → world ≡ first_world reading.cores reading.boot reading.overrides → P (board_in world) (reverse events) ≡ P (board_of reading) (history reading.steps)
-carried P reading events world events_are is =
-    ap (λ (board : Board). P board (reverse events)) (board_is reading world is) ∙ ap (P (board_of reading)) (history_is reading events events_are)
+-- the same steps as a slice
+pub begun_on : {reading : Reading} {events slice : List Event} {world : World} → IsBegun reading events world → slice ≡ events → IsBegun reading slice world
+begun_on {reading} {events} {slice} {world} begun is = subst (λ (steps : List Event). IsBegun reading steps world) (sym is) begun
+
+-- what is said of a machine is said of its reading
+pub carried : {A : Type 0} (P : Board → List Event → A) {reading : Reading} {events : List Event} {world : World} → IsBegun reading events world
+    → P (board_in world) (reverse events) ≡ P (board_of reading) (history reading.steps)
+carried P {reading} {events} {world} begun = ap (λ (board : Board). P board (reverse events)) begun.board ∙ ap (P (board_of reading)) begun.steps
+
+pub made_of : {reading : Reading} {events : List Event} {world : World} (new : World) → IsBegun reading events world
+    → IsAfter (board_in world) (steps_made (board_in world) (reverse events)) new → IsAfter (board_of reading) (steps_made (board_of reading) (history reading.steps)) new
+made_of {reading} {events} {world} new begun after =
+    subst (λ (steps : List Event). IsAfter (board_of reading) steps new) (carried steps_made begun)
+    (subst (λ (board : Board). IsAfter board (steps_made (board_in world) (reverse events)) new) begun.board after)
 
 -- one machine where there was none
 pub pushed : (old new : List World) (world : World) (ok : Bool) → new ≡ cond ok (old ++ world ∷ []) old → ok ≡ true → old ≡ [] → new ≡ world ∷ []
 pushed old new world ok is done none = is ∙ rw (done, none) refl
+
+pub leaves : {reading : Reading} {events : List Event} {world : World} (new : World) (machines : List World) → IsBegun reading events world → machines ≡ new ∷ []
+    → IsAfter (board_in world) (steps_made (board_in world) (reverse events)) new → LeavesAfter (board_of reading) (history reading.steps) machines
+leaves {reading} {events} {world} new machines begun one after =
+    subst (λ (all : List World). LeavesAfter (board_of reading) (history reading.steps) all) (sym one) (made_of new begun after)

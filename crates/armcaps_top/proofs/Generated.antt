@@ -1,12 +1,10 @@
 -- What is written of a machine that is made from a number.
 use Rattle.std.proofs.Common.{◌≡◌, ℕ, ◌≤◌, ◌^◌, true, List, [], ◌∷◌, None, refl, sym, ap, subst, ◌∙◌, arith}
 use Rattle.std.specs.Prelude.{Ok, reverse}
-use Rattle.std.specs.List.{flat_map}
-use Rattle.armcaps_boot.specs.Admission.{Board, halt_of, steps_made}
+use Rattle.armcaps_boot.specs.Admission.{halt_of, steps_made}
 use Rattle.armcaps_boot.specs.After.{IsAfter}
 use Rattle.armcaps_boot.specs.Findings.{Findings, findings_of}
-use Rattle.armcaps_boot.specs.First.{first_world}
-use Rattle.armcaps_boot.specs.Steps.{events_of, history}
+use Rattle.armcaps_boot.specs.Steps.{history}
 use Rattle.armcaps_boot.specs.World.{World}
 use Rattle.armcaps_boot.specs.declared.event.Event.{Event}
 use Rattle.armcaps_patch.specs.Features.{features_of, features_of_findings}
@@ -14,14 +12,14 @@ use Rattle.armcaps_text.specs.Document.{Reading}
 use Rattle.armcaps_text.specs.Generator.{generated_reading}
 use Rattle.armcaps_text.specs.LargeImage.{generated_image}
 use Rattle.armcaps_text.specs.Sound.{IsSound}
-use Rattle.armcaps_top.specs.Bringing.{board_in}
+use Rattle.armcaps_top.specs.Bringing.{IsBegun, board_in}
 use Rattle.armcaps_top.specs.Demo.{counts_of, demo_lines, demo_output, generated_document}
 use Rattle.armcaps_top.specs.Document.{Document}
 use Rattle.armcaps_top.specs.Inside.{LeavesAfter}
 use Rattle.armcaps_top.specs.Output.{board_of}
 use Rattle.armcaps_top.specs.Run.{written_of}
 use Rattle.armcaps_top.specs.declared.commands.Command.TheVariants.{Demo}
-use Rattle.armcaps_top.proofs.Answered.{board_is, carried}
+use Rattle.armcaps_top.proofs.Answered.{made_of}
 use Rattle.armcaps_top.proofs.Outputs.{findings_are, is_finalised, whole_after}
 use Rattle.armcaps_top.proofs.Steps.{made_whole}
 
@@ -54,17 +52,13 @@ pub record IsUp (reading : Reading) (world : World) : Type 0 where
   pub final : world.final ≡ true
 
 -- it is brought up
-pub brought_up : (seed cores : ℕ) (reading : Reading) (events : List Event) (first world : World) → reading ≡ generated_reading seed cores → IsSound (generated_reading seed cores)
-    → halt_of (board_of (generated_reading seed cores)) (history (generated_reading seed cores).steps) ≡ None
-    → events ≡ flat_map events_of reading.steps → first ≡ first_world reading.cores reading.boot reading.overrides
+pub brought_up : {events : List Event} {first : World} (seed cores : ℕ) (reading : Reading) (world : World) → reading ≡ generated_reading seed cores → IsSound (generated_reading seed cores)
+    → halt_of (board_of (generated_reading seed cores)) (history (generated_reading seed cores).steps) ≡ None → IsBegun reading events first
     → IsAfter (board_in first) (steps_made (board_in first) (reverse events)) world → IsUp reading world
-brought_up seed cores reading events first world is sound up events_are first_is after =
+brought_up {events} {first} seed cores reading world is sound up begun after =
     let going : halt_of (board_of reading) (history reading.steps) ≡ None =
     subst (λ (r : Reading). halt_of (board_of r) (history r.steps) ≡ None) (sym is) up in
-    let made : IsAfter (board_of reading) (steps_made (board_of reading) (history reading.steps)) world =
-    subst (λ (steps : List Event). IsAfter (board_of reading) steps world) (carried steps_made reading events first events_are first_is)
-    (subst (λ (b : Board). IsAfter b (steps_made (board_in first) (reverse events)) world) (board_is reading first first_is) after) in
-    let whole = whole_after (board_of reading) (history reading.steps) world going made in record {
+    let whole = whole_after (board_of reading) (history reading.steps) world going (made_of world begun after) in record {
       going = going;
       after = whole;
       final = is_finalised (board_of reading) (history reading.steps) world whole (sound_too seed cores reading is sound).complete;

@@ -11,7 +11,7 @@ use Rattle.armcaps_io.specs.Streams.{Appends, Keeps}
 use Rattle.armcaps_top.specs.Commands.{command_of}
 use Rattle.armcaps_top.specs.Document.{Document}
 use Rattle.armcaps_top.specs.Ending.{status_of}
-use Rattle.armcaps_top.specs.Inside.{Performs}
+use Rattle.armcaps_top.specs.Inside.{CanEnd, Performs}
 use Rattle.armcaps_top.specs.Run.{Change, IsPatchRefused, IsReadRefused, Promises, Reason, answer_for, answer_status, document_for, halt_in, reads_input, written_of}
 use Rattle.armcaps_top.specs.Telling.{Tells}
 use Rattle.armcaps_top.specs.declared.commands.Command.{Command}
@@ -210,12 +210,23 @@ abbrev pub EndsAsMade : Command → Ending → Type 0
 EndsAsMade command ending =
     (seed cores : ℕ) → Some command ≡ Some (Demo seed cores) → (status_of ending ≡ 0) ⊎ ((5 ≤ status_of ending) × (status_of ending ≤ 6))
 
+-- so it ends as any command can
+pub made_can : (command : Command) (ending : Ending) → (status_of ending ≡ 0) ⊎ ((5 ≤ status_of ending) × (status_of ending ≤ 6)) → CanEnd command ending
+made_can command ending ends = record {
+  patch = λ eight. absurd (omega (arith, low ends, eight));
+  mrs = λ nine. absurd (omega (arith, low ends, nine));
+}
+  where
+    low : (status_of ending ≡ 0) ⊎ ((5 ≤ status_of ending) × (status_of ending ≤ 6)) → status_of ending ≤ 6
+    low (inl zero) = omega (arith, zero)
+    low (inr some) = some.1
+
 -- a run of a command
 pub promised : (words : List (List ℕ)) (command : Command) (input out err : Change) (machines : List World) (ending : Ending)
     → command_of words ≡ Some command → Performs command (document_for (Some command) input.old) input out machines ending
-    → (reads_input (Some command) ≡ false → Keeps input.old input.new) → EndsAsMade command ending
+    → CanEnd command ending → (reads_input (Some command) ≡ false → Keeps input.old input.new) → EndsAsMade command ending
     → Tells ending err.old err.new err.before err.now → Promises words input out err machines (status_of ending)
-promised words command input out err machines ending is does unread made told =
+promised words command input out err machines ending is does can unread made told =
     let found : Option (Result Document Refusal) = document_for (Some command) input.old in
     let at : (e : Ending) → ending ≡ e → Reason (Some command) found input out e =
     λ e same. subst (λ (x : Ending). Reason (Some command) found input out x) same does.reason in record {
@@ -249,6 +260,8 @@ promised words command input out err machines ending is does unread made told =
       judged = λ read write memory. rw is (judged command found input out ending does.form does.reason read write memory);
       exact = λ read write. rw is (exact command found input out ending does.form does.reason (λ reads. read (rw is reads)) write);
       statuses = statuses ending;
+      patch = λ eight. is ∙ ap Some (can.patch eight);
+      mrs = λ nine. let read = can.mrs nine in (read.0, (read.1.0, is ∙ ap Some read.1.1));
       demo = λ seed cores same. made seed cores (sym is ∙ same);
     }
 
@@ -282,5 +295,7 @@ promised_nothing words input out err machines is same_input same_out none told =
       judged = λ read write memory. rw is refl;
       exact = λ read write. rw is (inl refl);
       statuses = inr (lit≤ tt, lit≤ tt);
+      patch = λ eight. absurd (omega (arith, eight));
+      mrs = λ nine. absurd (omega (arith, nine));
       demo = λ seed cores same. absurd (let no : ⊥ = cc in no);
     }

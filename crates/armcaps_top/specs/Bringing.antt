@@ -3,8 +3,12 @@ use Rattle.std.specs.Prelude.{◌≡◌, ℕ, true, List, length, take, reverse,
 use Rattle.armcaps_boot.specs.declared.event.Event.{Event}
 use Rattle.armcaps_boot.specs.After.{IsAfter}
 use Rattle.armcaps_boot.specs.Admission.{Board, halt_of}
-use Rattle.armcaps_boot.specs.Order.{in_order}
+use Rattle.armcaps_boot.specs.Order.{in_order, is_complete}
+use Rattle.armcaps_boot.specs.Outcome.{IsSafe}
+use Rattle.armcaps_boot.specs.Steps.{history}
 use Rattle.armcaps_boot.specs.World.{World}
+use Rattle.armcaps_text.specs.Document.{Reading}
+use Rattle.armcaps_top.specs.Output.{board_of}
 
 -- the board that a machine brings up
 abbrev pub board_in : World → Board
@@ -19,3 +23,11 @@ pub record IsAt (index : ℕ) (events : List Event) (board : Board) (world : Wor
   pub order : in_order (length board.cores) board.boot (reverse events) ≡ true
   pub after : IsAfter board (steps_before index events) world
   pub going : halt_of board (steps_before index events) ≡ None
+
+-- the machine of a reading has made no step yet, these are its steps, and if none of them stops it, it is safe after them
+pub record IsBegun (reading : Reading) (events : List Event) (world : World) : Type 0 where
+  pub at : IsAt 0 events (board_in world) world
+  pub complete : is_complete (length world.cores) (reverse events) ≡ true
+  pub board : board_in world ≡ board_of reading
+  pub steps : reverse events ≡ history reading.steps
+  pub safe : halt_of (board_of reading) (history reading.steps) ≡ None → IsSafe (board_of reading) (history reading.steps)

@@ -20,15 +20,15 @@ use Rattle.armcaps_text.specs.LargeImage.{generated_image}
 use Rattle.armcaps_top.specs.Document.{Document}
 use Rattle.armcaps_top.specs.declared.commands.demo.Counts.{Counts}
 
--- the core runs
-abbrev pub is_running : CoreState → Bool
-is_running (Admitted late) = true
-is_running _ = false
+-- the core is admitted
+abbrev pub stands_admitted : CoreState → Bool
+stands_admitted (Admitted late) = true
+stands_admitted _ = false
 
 -- the core is held back
-abbrev pub is_parked : CoreState → Bool
-is_parked (Parked cause) = true
-is_parked _ = false
+abbrev pub stands_parked : CoreState → Bool
+stands_parked (Parked cause) = true
+stands_parked _ = false
 
 -- how many cores are in such a state
 abbrev pub cores_that : (CoreState → Bool) → Findings → ℕ
@@ -54,8 +54,8 @@ unfoldable pub counts_of : Findings → Features → List ℕ → Layout → Cou
 counts_of found features image layout =
     let patched = patched_image features image layout in
     record {
-      running = cores_that is_running found;
-      parked = cores_that is_parked found;
+      admitted = cores_that stands_admitted found;
+      parked = cores_that stands_parked found;
       selected = length (selected_of features image layout);
       covered = words_covered (selected_of features image layout);
       changed = words_changed image patched;
@@ -67,7 +67,7 @@ abbrev pub title_line : ℕ → ℕ → List ℕ
 title_line seed cores = codes "armcaps demo " ++ decimal seed ++ codes " " ++ decimal cores ++ codes "\n"
 
 abbrev pub cores_line : Counts → List ℕ
-cores_line counts = codes "admitted " ++ decimal counts.running ++ codes " parked " ++ decimal counts.parked ++ codes "\n"
+cores_line counts = codes "admitted " ++ decimal counts.admitted ++ codes " parked " ++ decimal counts.parked ++ codes "\n"
 
 abbrev pub entries_line : Counts → List ℕ
 entries_line counts = codes "entries 20000 selected " ++ decimal counts.selected ++ codes "\n"

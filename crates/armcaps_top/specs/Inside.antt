@@ -12,6 +12,8 @@ use Rattle.armcaps_top.specs.Ending.{status_of}
 use Rattle.armcaps_top.specs.Output.{board_of}
 use Rattle.armcaps_top.specs.Run.{Change, IsDocumentAnd, LeavesMachine, Reason, has_machine, steps_of}
 use Rattle.armcaps_top.specs.declared.commands.Command.{Command}
+use Rattle.armcaps_top.specs.declared.commands.Command.TheVariants.{Ask, Patch}
+use Rattle.armcaps_top.specs.declared.commands.Query.TheVariants.{Mrs}
 use Rattle.armcaps_top.specs.declared.ending.Ending.{Ending}
 use Rattle.armcaps_top.specs.declared.refusal.Refusal.{Refusal}
 use Rattle.armcaps_top.specs.declared.ending.Ending.TheVariants.{Done, Usage, Refused, ReadFault, WriteFault, Memory}
@@ -39,6 +41,11 @@ IsUnread input before now _ = ⊥
 abbrev pub IsInstead : Result (List ℕ) Ending → Ending → Type 0
 IsInstead answer Memory = Unit {0}
 IsInstead answer ending = answer ≡ Err ending
+
+-- what comes under one command alone: an entry that is refused under `patch`, and a read that is under `mrs`
+pub record CanEnd (command : Command) (ending : Ending) : Type 0 where
+  pub patch : status_of ending ≡ 8 → command ≡ Patch
+  pub mrs : status_of ending ≡ 9 → (core : ℕ) × ((word : ℕ) × (command ≡ Ask (Mrs core word)))
 
 -- one machine is left, which is that of a board after these steps, up to one that stopped it
 abbrev pub LeavesAfter : Board → List Event → List World → Type 0

@@ -22,6 +22,7 @@ use Rattle.armcaps_top.specs.Patch.{patch_output}
 use Rattle.armcaps_top.specs.Telling.{Tells}
 use Rattle.armcaps_top.specs.declared.commands.Command.{Command}
 use Rattle.armcaps_top.specs.declared.commands.Command.TheVariants.{Ask, Patch, Demo}
+use Rattle.armcaps_top.specs.declared.commands.Query.TheVariants.{Mrs}
 use Rattle.armcaps_top.specs.declared.commands.mrs.ReadRefused.{ReadRefused}
 use Rattle.armcaps_top.specs.declared.ending.Ending.{Ending}
 use Rattle.armcaps_top.specs.declared.ending.Ending.TheVariants.{Done, Usage, Refused, ReadFault, WriteFault, Memory, Panicked, NotPatched, NotRead}
@@ -170,5 +171,7 @@ pub record Promises (words : List (List ℕ)) (input out err : Change) (machines
   pub exact : (reads_input (command_of words) ≡ true → Rose input.before input.now → ⊥) → (Rose out.before out.now → ⊥)
       → IfSome (answer_for (command_of words) (document_for (command_of words) input.old)) (λ answer. (status ≡ answer_status answer) ⊎ (status ≡ 6))
   pub statuses : (status ≡ 0) ⊎ ((2 ≤ status) × (status ≤ 9))
-  -- under `demo` 0, 5 and 6 alone come
+  -- 8 comes under `patch` alone, 9 under `mrs` alone, and under `demo` 0, 5 and 6 alone come
+  pub patch : status ≡ 8 → command_of words ≡ Some Patch
+  pub mrs : status ≡ 9 → (core : ℕ) × ((word : ℕ) × (command_of words ≡ Some (Ask (Mrs core word))))
   pub demo : (seed cores : ℕ) → command_of words ≡ Some (Demo seed cores) → (status ≡ 0) ⊎ ((5 ≤ status) × (status ≤ 6))

@@ -1,13 +1,33 @@
 //! A machine is brought up.
 
-ghost use Rattle.std.specs.Prelude.{◌≡◌, ◌<◌, ◌+◌, length, reverse, slice_index_or};
+ghost use Rattle.std.specs.Prelude.{◌≡◌, ◌<◌, ◌+◌, IfOk, length, reverse, slice_index_or};
 ghost use Rattle.armcaps_boot.specs.After.{IsAfter, reply_of};
 ghost use Rattle.armcaps_boot.specs.Admission.{halt_of, steps_made};
 ghost use Rattle.armcaps_boot.specs.declared.event.Event.TheVariants as Event;
-ghost use Rattle.armcaps_top.specs.Bringing.{IsAt, board_in, steps_before};
+ghost use Rattle.armcaps_text.specs.Document.{reading_of};
+ghost use Rattle.armcaps_text.specs.Sound.{IsSound};
+ghost use Rattle.armcaps_top.specs.Bringing.{IsAt, IsBegun, board_in, steps_before};
 
-use armcaps_boot::laws::steps_are_answered;
-use armcaps_boot::{Boot, Event, Halt, Reply};
+use armcaps_alt::Names;
+use armcaps_boot::laws::{documents_are_safe, machines_begin_with_no_step, steps_are_answered};
+use armcaps_boot::{Boot, Event, Halt, Reply, events_of};
+use armcaps_text::Machine;
+use std::alloc::{AllocError, Global};
+
+/// The machine of a document before its first step, its steps in their order, and its names.
+pub fn begin(alloc: Global, machine: Machine) -> Result<(Boot, Vec<Event>, Names), AllocError>
+    requires { IsSound (reading_of machine) }
+    ensures begun { IfOk result (λ made. IsBegun (reading_of machine) made.1.items made.0) }
+    ensures names { IfOk result (λ made. made.2 ≡ machine.names) }
+{
+    let events = events_of(alloc, &machine.steps)?;
+    let Ok(boot) = Boot::new(alloc, machine.cores, machine.boot, machine.overrides) else {
+        return Err(AllocError);
+    };
+    machines_begin_with_no_step();
+    documents_are_safe();
+    Ok((boot, events, machine.names))
+}
 
 /// Makes the step at this index. It is never refused.
 pub fn make_step(boot: &mut Boot, events: &[Event], index: usize) -> Reply

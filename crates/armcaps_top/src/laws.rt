@@ -18,8 +18,8 @@ use armcaps_text::laws::readings_are_sound;
 
 /// Of every document and register: each field of the system's word is its rule's value over the cores that were ever admitted,
 /// under the command line's override, each field of the word that users see is what they see of that value, and every other bit
-/// of both is 0. An override that is not safe, since merging it with the boot core's value gives another, leaves no mark: the
-/// field is as if there were none.
+/// of both is 0. An override that is not taken, since merging it with the boot core's value gives another, leaves no mark:
+/// the field is as if there were none.
 #[tactic(auto, unfolding(crate::specs::Document::document))]
 pub fn document_fields_hold()
     ensures system { (input : List ℕ) (found : Document) (reg : SysReg) → document input ≡ Ok found

@@ -1,6 +1,6 @@
 //! The program's one call.
 
-ghost use Rattle.std.specs.Prelude.{◌≡◌, ◌≢◌, ◌⊎◌, ℕ, [], ◌∷◌, Ok, Err, Some, None, IfOk, IfErr, ◌≤◌, drop, length, map, string_bytes};
+ghost use Rattle.std.specs.Prelude.{◌≡◌, ◌≢◌, ◌⊎◌, ℕ, [], ◌∷◌, Ok, Err, Some, None, false, IfOk, IfErr, ◌≤◌, drop, length, map, string_bytes};
 ghost use Rattle.armcaps_boot.specs.After.{IsAfter};
 ghost use Rattle.armcaps_boot.specs.Admission.{halt_of, steps_made};
 ghost use Rattle.armcaps_boot.specs.Findings.{findings_after};
@@ -12,15 +12,17 @@ ghost use Rattle.armcaps_boot.specs.Steps.{history};
 ghost use Rattle.armcaps_boot.specs.World.{World};
 ghost use Rattle.armcaps_text.specs.Document.{reading_of};
 ghost use Rattle.armcaps_text.specs.Sound.{IsSound};
-ghost use Rattle.armcaps_top.specs.Inside.{IsInstead, LeavesAfter, Performs};
+ghost use Rattle.armcaps_top.specs.Inside.{CanEnd, IsInstead, LeavesAfter, Performs};
 ghost use Rattle.armcaps_top.specs.Output.{board_of, output_after, unless_stopped};
 ghost use Rattle.armcaps_top.specs.Patch.{patch_output};
+ghost use Rattle.armcaps_top.specs.Commands.{command_of};
 ghost use Rattle.armcaps_top.specs.Demo.{generated_document};
 ghost use Rattle.armcaps_top.specs.Document.{document};
 ghost use Rattle.armcaps_top.specs.Ending.{status_of};
 ghost use Rattle.std.specs.Option.{option_map};
-ghost use Rattle.armcaps_top.specs.Run.{Change, Promises};
+ghost use Rattle.armcaps_top.specs.Run.{Change, Promises, reads_input};
 
+use crate::bringing::begin;
 use crate::commands::demo::demo_answer;
 use crate::commands::patch::patch_plan;
 use crate::commands::{Command, Query};
@@ -28,8 +30,7 @@ use crate::document::machine_of;
 use crate::ending::Ending;
 use crate::reading::read_input;
 use crate::telling::tell;
-use armcaps_boot::laws::{documents_are_safe, machines_begin_with_no_step};
-use armcaps_boot::{Boot, events_of};
+use armcaps_boot::Boot;
 use armcaps_io::{Sink, Source, write_whole};
 use armcaps_patch::Plan;
 use armcaps_text::Machine;
@@ -49,14 +50,9 @@ fn answer(
     ensures machine { result ≢ Err Ending.Memory → LeavesAfter (board_of (reading_of machine)) (history machine.steps.items) machines.new.items }
     ensures safe { IfOk result (λ text. IsSafe (board_of (reading_of machine)) (history machine.steps.items)) }
 {
-    let Ok(events) = events_of(alloc, &machine.steps) else {
+    let Ok((mut boot, events, _)) = begin(alloc, machine) else {
         return Err(Ending::Memory);
     };
-    let Ok(mut boot) = Boot::new(alloc, machine.cores, machine.boot, machine.overrides) else {
-        return Err(Ending::Memory);
-    };
-    machines_begin_with_no_step();
-    documents_are_safe();
     let output = query.output(alloc, &mut boot, &events);
     if machines.push(boot).is_err() {
         return Err(Ending::Memory);
@@ -86,22 +82,11 @@ fn plan(
     ensures machine { result ≢ Err Ending.Memory → LeavesAfter (board_of (reading_of machine)) (history machine.steps.items) machines.new.items }
     ensures safe { IfOk result (λ plan. IsSafe (board_of (reading_of machine)) (history machine.steps.items)) }
 {
-    let Ok(events) = events_of(alloc, &machine.steps) else {
+    let layout = machine.layout;
+    let Ok((mut boot, events, names)) = begin(alloc, machine) else {
         return Err(Ending::Memory);
     };
-    let Ok(mut boot) = Boot::new(alloc, machine.cores, machine.boot, machine.overrides) else {
-        return Err(Ending::Memory);
-    };
-    machines_begin_with_no_step();
-    documents_are_safe();
-    let plan = patch_plan(
-        alloc,
-        &mut boot,
-        &events,
-        image,
-        machine.layout,
-        &machine.names,
-    );
+    let plan = patch_plan(alloc, &mut boot, &events, image, layout, &names);
     if machines.push(boot).is_err() {
         return Err(Ending::Memory);
     }
@@ -117,7 +102,8 @@ fn answer_query<S: Source, O: Sink>(
     machines: &mut Vec<Boot>,
 ) -> Ending
     requires { machines.old.items ≡ [] }
-    ensures { Performs (Command.Ask query) (option_map document (S.left input.old))
+    ensures ends { CanEnd (Command.Ask query) result }
+    ensures performs { Performs (Command.Ask query) (option_map document (S.left input.old))
         (record { old = S.left input.old; new = S.left input.new; before = S.faults input.old; now = S.faults input.new })
         (record { old = O.held out.old; new = O.held out.new; before = O.faults out.old; now = O.faults out.new })
         machines.new.items result }
@@ -156,7 +142,8 @@ fn patch_image<S: Source, O: Sink>(
     machines: &mut Vec<Boot>,
 ) -> Ending
     requires { machines.old.items ≡ [] }
-    ensures { Performs Command.Patch (option_map document (S.left input.old))
+    ensures ends { CanEnd Command.Patch result }
+    ensures performs { Performs Command.Patch (option_map document (S.left input.old))
         (record { old = S.left input.old; new = S.left input.new; before = S.faults input.old; now = S.faults input.new })
         (record { old = O.held out.old; new = O.held out.new; before = O.faults out.old; now = O.faults out.new })
         machines.new.items result }
@@ -232,7 +219,8 @@ pub fn run<S: Source, O: Sink, E: Sink>(
     machines: &mut Vec<Boot>,
 ) -> u8
     requires { machines.old.items ≡ [] }
-    ensures { Promises (map string_bytes words.now)
+    ensures untouched { reads_input (command_of (map string_bytes words.now)) ≡ false → input.new ≡ input.old }
+    ensures promises { Promises (map string_bytes words.now)
         (record { old = S.left input.old; new = S.left input.new; before = S.faults input.old; now = S.faults input.new })
         (record { old = O.held out.old; new = O.held out.new; before = O.faults out.old; now = O.faults out.new })
         (record { old = E.held err.old; new = E.held err.new; before = E.faults err.old; now = E.faults err.new })

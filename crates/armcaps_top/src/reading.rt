@@ -30,8 +30,7 @@ fn read_past<S: Source>(source: &mut S, bytes: &mut Vec<u8>, limit: usize) -> Re
     }
 }
 
-/// All bytes of an input that has no more of them than its format allows, or else why it was not read. Of a longer input one
-/// byte more than the limit is read.
+/// All bytes of an input that has no more of them than its format allows, or else why it was not read.
 pub fn read_input<S: Source>(alloc: Global, source: &mut S) -> Result<Vec<u8>, Ending>
     ensures whole { IfOk result (λ bytes. GivesAll (S.left source.old) (S.left source.new) bytes.items) }
     ensures within { IfOk result (λ bytes. length bytes.items ≤ (format_of bytes.items).input) }

@@ -13,16 +13,15 @@ ghost use Rattle.armcaps_boot.specs.Safety.{is_enabled};
 ghost use Rattle.armcaps_boot.specs.World.{state_at};
 ghost use Rattle.armcaps_patch.specs.Features.{features_of};
 ghost use Rattle.armcaps_patch.specs.Kept.{StandsFor};
-ghost use Rattle.armcaps_top.specs.Demo.{cores_that, counts_of, demo_lines, generated_document, is_changed, is_parked, is_running, sum_of_words, words_changed, words_covered};
+ghost use Rattle.armcaps_top.specs.Demo.{cores_that, counts_of, demo_lines, generated_document, is_changed, stands_parked, stands_admitted, sum_of_words, words_changed, words_covered};
 ghost use Rattle.armcaps_top.specs.Inside.{LeavesAfter};
 ghost use Rattle.armcaps_top.specs.Output.{board_of};
 ghost use Rattle.armcaps_top.specs.Run.{steps_of, written_of};
 
-use crate::bringing::bring_up;
+use crate::bringing::{begin, bring_up};
 use crate::commands::Command;
 use armcaps_alt::{Entry, Layout, Named, Names};
-use armcaps_boot::laws::{documents_are_safe, machines_begin_with_no_step};
-use armcaps_boot::{Boot, CoreState, events_of};
+use armcaps_boot::{Boot, CoreState};
 use armcaps_io::{Failed, Sink};
 use armcaps_patch::{PatchRefused, Plan};
 use armcaps_text::generate;
@@ -34,8 +33,8 @@ use std::fmt::Write;
 /// What is counted of a machine and its image.
 #[derive(Clone, Copy)]
 pub struct Counts {
-    /// The cores that run.
-    pub running: u32,
+    /// The cores that are admitted.
+    pub admitted: u32,
     /// The cores that are held back.
     pub parked: u32,
     /// The entries that are selected.
@@ -50,12 +49,12 @@ pub struct Counts {
 
 // A sink that keeps its bytes in memory, and fails only where there is no more of it.
 #[derive(Drop)]
-struct Kept {
+struct KeptBytes {
     bytes: Vec<u8>,
     faults: u64,
 }
 
-impl Sink for Kept {
+impl Sink for KeptBytes {
     ghost held = { λ s. Some s.bytes.items };
 
     ghost faults = { λ s. s.faults };
@@ -77,7 +76,7 @@ fn patched(alloc: Global, plan: &Plan, image: &[u8]) -> Result<Vec<u8>, AllocErr
     ensures { (features : Features) (layout : Place) → StandsFor plan.now features image.now layout
         → IfOk result (λ bytes. bytes.items ≡ patched_image features image.now layout) }
 {
-    let mut sink = Kept {
+    let mut sink = KeptBytes {
         bytes: Vec::with_capacity(alloc, image.len())?,
         faults: 0,
     };
@@ -196,10 +195,10 @@ fn count_entries(image: &[u8], layout: Layout, names: &Names, boot: &Boot) -> (u
     (count, covered)
 }
 
-// One for a core that runs, and one for a core that is held back.
+// One for a core that is admitted, and one for a core that is held back.
 fn standing(state: CoreState) -> (u32, u32)
-    ensures running { result.0 ≡ cond (is_running state) 1 0 }
-    ensures parked { result.1 ≡ cond (is_parked state) 1 0 }
+    ensures admitted { result.0 ≡ cond (stands_admitted state) 1 0 }
+    ensures parked { result.1 ≡ cond (stands_parked state) 1 0 }
 {
     match state {
         CoreState::Admitted { .. } => (1, 0),
@@ -219,19 +218,19 @@ fn core_state(boot: &Boot, number: u32) -> CoreState
     boot.state(number).unwrap_or(CoreState::Absent)
 }
 
-// How many cores run, and how many are held back.
+// How many cores are admitted, and how many are held back.
 fn count_cores(boot: &Boot) -> (u32, u32)
-    ensures running { result.0 ≡ cores_that is_running (findings_of boot.now) }
-    ensures parked { result.1 ≡ cores_that is_parked (findings_of boot.now) }
+    ensures admitted { result.0 ≡ cores_that stands_admitted (findings_of boot.now) }
+    ensures parked { result.1 ≡ cores_that stands_parked (findings_of boot.now) }
 {
-    let mut running = 0;
+    let mut admitted = 0;
     let mut parked = 0;
     for number in 0..boot.count() {
-        let (runs, held) = standing(core_state(boot, number));
-        running += runs;
+        let (up, held) = standing(core_state(boot, number));
+        admitted += up;
         parked += held;
     }
-    (running, parked)
+    (admitted, parked)
 }
 
 // What is counted of a machine and its image.
@@ -251,12 +250,12 @@ fn counts_of(
     requires stands { StandsFor plan.now (features_of boot.now names.now) image.now layout }
     ensures { IfOk result (λ counts. counts ≡ counts_of (findings_of boot.now) (features_of boot.now names.now) image.now layout) }
 {
-    let (running, parked) = count_cores(boot);
+    let (admitted, parked) = count_cores(boot);
     let (selected, covered) = count_entries(image, layout, names, boot);
     let new = patched(alloc, plan, image)?;
     let (changed, sum) = compare(image, &new);
     Ok(Counts {
-        running,
+        admitted,
         parked,
         selected,
         covered,
@@ -274,7 +273,7 @@ fn demo_lines(alloc: Global, seed: u32, cores: u32, counts: &Counts) -> Result<S
     write!(
         text,
         "admitted {} parked {}\n",
-        counts.running, counts.parked
+        counts.admitted, counts.parked
     )?;
     write!(text, "entries 20000 selected {}\n", counts.selected)?;
     write!(
@@ -329,17 +328,12 @@ pub fn demo_answer(
     ensures safe { IfOk result (λ text. let found = generated_document seed cores in IsSafe (board_of found.reading) (steps_of found)) }
 {
     let (machine, image) = generate(alloc, seed, cores)?;
-    let events = events_of(alloc, &machine.steps)?;
     let layout = machine.layout;
     generated_machines_are_sound();
     generated_images_are_not_refused();
-    machines_begin_with_no_step();
-    documents_are_safe();
-    let Ok(mut boot) = Boot::new(alloc, machine.cores, machine.boot, machine.overrides) else {
-        return Err(AllocError);
-    };
+    let (mut boot, events, names) = begin(alloc, machine)?;
     bring_up(&mut boot, &events);
-    let text = demo_text(alloc, seed, cores, &boot, &machine.names, &image, layout)?;
+    let text = demo_text(alloc, seed, cores, &boot, &names, &image, layout)?;
     machines.push(boot)?;
     Ok(text)
 }

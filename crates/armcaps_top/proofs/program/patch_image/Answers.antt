@@ -11,8 +11,8 @@ use Rattle.armcaps_top.specs.declared.ending.Ending.TheVariants.{Memory}
 use Rattle.armcaps_top.proofs.Performing.{document_is, keeps, not_patched, patched, patched_part}
 use Rattle.armcaps_top.proofs.program.patch_image.Goals as goal
 
-pub returns-in-Err-plan : goal.returns-in-Err-plan
-returns-in-Err-plan g c =
+pub returns-in-Err-plan-clause-performs : goal.returns-in-Err-plan-clause-performs
+returns-in-Err-plan-clause-performs g c =
     let reading : Reading = reading_of c.in-Ok-machine_of.read.0 in
     let image : List ℕ = c.bytes_from-image.result.now in
     let is = document_is c.in-Ok.bytes.items c.deref.result.now c.deref-2.result.now image c.in-Ok-machine_of.read.1 reading c.deref.ensures.value c.deref-2.ensures.value
@@ -20,8 +20,8 @@ returns-in-Err-plan g c =
     not_patched _ _ c.in-Ok.bytes.items (record { reading = reading; image = image }) c.plan.new.machines.items c.in-Err-plan.ending c.in-Ok.ensures.whole is
     c.in-Err-plan.ensures.instead (λ memory. c.in-Err-plan.ensures.machine (λ e. memory (let same : c.in-Err-plan.ending ≡ Memory = cc in same))) (keeps _)
 
-pub returns-in-Ok-write : goal.returns-in-Ok-write
-returns-in-Ok-write g c =
+pub returns-in-Ok-write-clause-performs : goal.returns-in-Ok-write-clause-performs
+returns-in-Ok-write-clause-performs g c =
     let reading : Reading = reading_of c.in-Ok-machine_of.read.0 in
     let image : List ℕ = c.bytes_from-image.result.now in
     let found : Document = record { reading = reading; image = image } in
@@ -32,8 +32,8 @@ returns-in-Ok-write g c =
     c.in-Ok-plan.ensures.output (c.in-Ok-plan.ensures.machine (λ e. let no : ⊥ = cc in no)) c.in-Ok-plan.ensures.safe
     (c.in-Ok-write.ensures.whole features reading.layout c.in-Ok-plan.ensures.plan)
 
-pub returns : goal.returns
-returns g c =
+pub returns-clause-performs : goal.returns-clause-performs
+returns-clause-performs g c =
     let reading : Reading = reading_of c.in-Ok-machine_of.read.0 in
     let image : List ℕ = c.bytes_from-image.result.now in
     let found : Document = record { reading = reading; image = image } in

@@ -1,13 +1,13 @@
 use Rattle.std.proofs.Common.{◌≡◌, ◌≤◌, ℕ}
 use Rattle.std.specs.List.{count_by, range_with_len}
 use Rattle.armcaps_boot.specs.World.{state_at}
-use Rattle.armcaps_top.specs.Demo.{is_parked, is_running}
+use Rattle.armcaps_top.specs.Demo.{stands_parked, stands_admitted}
 use Rattle.armcaps_top.proofs.commands.demo.count_cores.Given as goal
 
 abbrev pub invariant-loop-number : goal.invariant-loop-number
 invariant-loop-number l = record {
-  running : l.running ≡ count_by (λ (number : ℕ). is_running (state_at l.boot.states number)) (range_with_len 0 l.number);
-  parked : l.parked ≡ count_by (λ (number : ℕ). is_parked (state_at l.boot.states number)) (range_with_len 0 l.number);
-  few_running : l.running ≤ l.number;
+  admitted : l.admitted ≡ count_by (λ (number : ℕ). stands_admitted (state_at l.boot.states number)) (range_with_len 0 l.number);
+  parked : l.parked ≡ count_by (λ (number : ℕ). stands_parked (state_at l.boot.states number)) (range_with_len 0 l.number);
+  few_admitted : l.admitted ≤ l.number;
   few_parked : l.parked ≤ l.number;
 }

@@ -17,7 +17,7 @@ returns c =
     ∙ ap (λ (text : List ℕ). text ++ words_line counts) (c.in_ok-write-3.ensures.bytes
     ∙ ap (λ (line : List ℕ). string_bytes c.write-2.new.self ++ line) (one_number (codes "entries 20000 selected ") (decimal counts.selected) (codes "\n"))
     ∙ ap (λ (text : List ℕ). text ++ entries_line counts) (c.in_ok-write-2.ensures.bytes
-    ∙ ap (λ (line : List ℕ). string_bytes c.write.new.self ++ line) (two_numbers (codes "admitted ") (decimal counts.running) (codes " parked ") (decimal counts.parked) (codes "\n"))
+    ∙ ap (λ (line : List ℕ). string_bytes c.write.new.self ++ line) (two_numbers (codes "admitted ") (decimal counts.admitted) (codes " parked ") (decimal counts.parked) (codes "\n"))
     ∙ ap (λ (text : List ℕ). text ++ cores_line counts) (c.in_ok-write.ensures.bytes
     ∙ ap (λ (line : List ℕ). string_bytes c.new-text.result ++ line) (two_numbers (codes "armcaps demo ") (decimal c.args.seed) (codes " ") (decimal c.args.cores) (codes "\n"))
     ∙ ap (λ (text : List ℕ). text ++ title_line c.args.seed c.args.cores) c.new-text.ensures.bytes))))
