@@ -205,7 +205,7 @@ exact command found input out (NotPatched entry kind) form reason read write =
 exact command found input out (NotRead refused) form reason read write =
     either (answer_for (Some command) found) 9 (judged command found input out (NotRead refused) form reason (λ e. omega (arith, e)) (λ e. omega (arith, e)) (λ e. omega (arith, e)))
 
--- a machine that is made from a number is never what a run ends for
+-- a run of `demo` ends with 0, 5 or 6
 abbrev pub EndsAsMade : Command → Ending → Type 0
 EndsAsMade command ending =
     (seed cores : ℕ) → Some command ≡ Some (Demo seed cores) → (status_of ending ≡ 0) ⊎ ((5 ≤ status_of ending) × (status_of ending ≤ 6))
