@@ -3,8 +3,6 @@
 
 mod bringing;
 mod commands;
-#[cfg(test)]
-mod demo_tests;
 mod document;
 mod ending;
 pub mod laws;
