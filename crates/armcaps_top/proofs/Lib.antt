@@ -1,8 +1,10 @@
 pub mod Answered
 pub mod Brought
 pub mod CoreCounts
+pub mod Covered
 pub mod DocumentFields
 pub mod Generated
+pub mod GeneratedSites
 pub mod Images
 pub mod Limits
 pub mod Outputs

@@ -1,10 +1,10 @@
 -- What `demo` writes: what comes of a machine and its image that are made from a number. The lines are this project's own.
 use Rattle.std.specs.Prelude.{ℕ, ◌==◌, ◌*◌, ◌/◌, ◌++◌, Bool, true, false, not, List, codes, count_by, length, sum_by}
 use Rattle.std.specs.Fmt.{decimal}
-use Rattle.std.specs.List.{range_with_len}
+use Rattle.std.specs.List.{list_any, range_with_len}
 use Rattle.armcaps_alt.specs.Bytes.{word_in}
 use Rattle.armcaps_alt.specs.Entries.{Features, selected_of}
-use Rattle.armcaps_alt.specs.Patched.{patched_image}
+use Rattle.armcaps_alt.specs.Patched.{covers, patched_image}
 use Rattle.armcaps_alt.specs.declared.table_entry.Entry.{Entry}
 use Rattle.armcaps_alt.specs.declared.table_place.Layout.{Layout}
 use Rattle.armcaps_boot.specs.Admission.{Board}
@@ -34,9 +34,13 @@ stands_parked _ = false
 abbrev pub cores_that : (CoreState → Bool) → Findings → ℕ
 cores_that test found = count_by (λ number. test (state_at found.states number)) (range_with_len 0 (length found.cores))
 
--- how many words the sites of entries have, which are as many as they cover where no two of them overlap
-abbrev pub words_covered : List Entry → ℕ
-words_covered entries = sum_by (λ entry. entry.orig_len / 4) entries
+-- how many words the sites of entries have
+abbrev pub words_of_sites : List Entry → ℕ
+words_of_sites entries = sum_by (λ entry. entry.orig_len / 4) entries
+
+-- how many words of an image the sites of entries cover: those whose first byte lies in the site of some entry
+abbrev pub words_covered : List ℕ → List Entry → ℕ
+words_covered image entries = count_by (λ index. list_any (covers (4 * index)) entries) (range_with_len 0 (length image / 4))
 
 -- whether the word at an index differs in two images
 abbrev pub is_changed : List ℕ → List ℕ → ℕ → Bool
@@ -57,7 +61,7 @@ counts_of found features image layout =
       admitted = cores_that stands_admitted found;
       parked = cores_that stands_parked found;
       selected = length (selected_of features image layout);
-      covered = words_covered (selected_of features image layout);
+      covered = words_covered image (selected_of features image layout);
       changed = words_changed image patched;
       sum = sum_of_words patched;
     }

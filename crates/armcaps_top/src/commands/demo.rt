@@ -13,7 +13,7 @@ ghost use Rattle.armcaps_boot.specs.Safety.{is_enabled};
 ghost use Rattle.armcaps_boot.specs.World.{state_at};
 ghost use Rattle.armcaps_patch.specs.Features.{features_of};
 ghost use Rattle.armcaps_patch.specs.Kept.{StandsFor};
-ghost use Rattle.armcaps_top.specs.Demo.{cores_that, counts_of, demo_lines, generated_document, is_changed, stands_parked, stands_admitted, sum_of_words, words_changed, words_covered};
+ghost use Rattle.armcaps_top.specs.Demo.{cores_that, counts_of, demo_lines, generated_document, is_changed, stands_parked, stands_admitted, sum_of_words, words_changed, words_covered, words_of_sites};
 ghost use Rattle.armcaps_top.specs.Inside.{LeavesAfter};
 ghost use Rattle.armcaps_top.specs.Output.{board_of};
 ghost use Rattle.armcaps_top.specs.Run.{steps_of, written_of};
@@ -183,7 +183,7 @@ fn count_entries(image: &[u8], layout: Layout, names: &Names, boot: &Boot) -> (u
     requires few { layout.count ≤ 2 ^ 20 }
     requires finalised { boot.now.final ≡ true }
     ensures selected { result.0 ≡ length (selected_of (features_of boot.now names.now) image.now layout) }
-    ensures covered { result.1 ≡ words_covered (selected_of (features_of boot.now names.now) image.now layout) }
+    ensures covered { result.1 ≡ words_of_sites (selected_of (features_of boot.now names.now) image.now layout) }
 {
     let mut count = 0;
     let mut covered = 0;
@@ -248,6 +248,8 @@ fn counts_of(
     requires few { layout.count ≤ 2 ^ 20 }
     requires finalised { boot.now.final ≡ true }
     requires stands { StandsFor plan.now (features_of boot.now names.now) image.now layout }
+    requires apart { let entries = selected_of (features_of boot.now names.now) image.now layout in
+        words_covered image.now entries ≡ words_of_sites entries }
     ensures { IfOk result (λ counts. counts ≡ counts_of (findings_of boot.now) (features_of boot.now names.now) image.now layout) }
 {
     let (admitted, parked) = count_cores(boot);
@@ -300,6 +302,8 @@ fn demo_text(
     requires few { layout.count ≤ 2 ^ 20 }
     requires finalised { boot.now.final ≡ true }
     requires accepted { first_refusal (features_of boot.now names.now) image.now layout ≡ None }
+    requires apart { let entries = selected_of (features_of boot.now names.now) image.now layout in
+        words_covered image.now entries ≡ words_of_sites entries }
     ensures { IfOk result (λ text. string_bytes text
         ≡ demo_lines seed cores (counts_of (findings_of boot.now) (features_of boot.now names.now) image.now layout)) }
 {

@@ -7,6 +7,7 @@ use Rattle.armcaps_text.specs.Document.{reading_of}
 use Rattle.armcaps_top.specs.Demo.{counts_of, demo_lines}
 use Rattle.armcaps_top.proofs.Answered.{begun_on, pushed}
 use Rattle.armcaps_top.proofs.Generated.{brought_up, few_entries, left, sound_too, told}
+use Rattle.armcaps_top.proofs.GeneratedSites.{generated_apart}
 use Rattle.armcaps_top.proofs.commands.demo.demo_answer.Goals as goal
 
 pub begin-requires : goal.begin-requires
@@ -27,6 +28,11 @@ demo_text-requires-clause-finalised c =
     (c.generated_machines_are_sound.ensures.sound c.args.seed c.args.cores c.requires.some c.requires.few)
     (c.generated_machines_are_sound.ensures.up c.args.seed c.args.cores c.requires.some) (begun_on c.in_ok-boot.ensures.begun c.deref.ensures.value) c.bring_up.ensures.machine in
     up.final
+
+pub demo_text-requires-clause-apart : goal.demo_text-requires-clause-apart
+demo_text-requires-clause-apart c =
+    generated_apart c.args.seed c.args.cores (reading_of c.in_ok-machine.machine) c.deref-2.result.now (features_of c.bring_up.new.boot c.in_ok-boot.names)
+    c.in_ok-machine.ensures.reading (c.deref-2.ensures.value ∙ c.in_ok-machine.ensures.image)
 
 pub returns-clause-output : goal.returns-clause-output
 returns-clause-output c =
