@@ -1,14 +1,18 @@
--- What a plan makes of the image that it stands for is the patched image.
-use Rattle.std.proofs.Common.{◌≡◌, ◌-◌, ◌/◌, ◌%◌, ◌∷◌, ℕ, Bool, List, [], None, Option, Some, ap, length, map, refl, inl, inr, ◌⊎◌}
-use Rattle.std.specs.List.{range_with_len}
+-- What a plan makes of the image that it stands for is the patched image, and what it counts is counted of the selected entries.
+use Rattle.std.proofs.Common.{◌≡◌, ◌-◌, ◌/◌, ◌%◌, ◌∷◌, ◌∙◌, ℕ, Bool, List, [], None, Option, Some, ap, arith, length, map, refl, inl, inr, ◌⊎◌}
+use Rattle.std.specs.List.{range_with_len, sum_by}
 use Rattle.std.specs.Option.{option_map}
 use Rattle.std.proofs.lemmas.Bool.{cases_Bool}
+use Rattle.std.proofs.lemmas.List.{length-map}
+use Rattle.std.proofs.lemmas.List.Sums.{sum_by-cons}
 use Rattle.armcaps_alt.specs.declared.table_entry.Entry.{Entry}
 use Rattle.armcaps_alt.specs.declared.table_place.Layout.{Layout}
 use Rattle.armcaps_alt.specs.Entries.{Features, selected_of}
 use Rattle.armcaps_alt.specs.Names.{callback_named}
 use Rattle.armcaps_alt.specs.Patched.{byte_of, covers, last_that, patched_byte, patched_image}
 use Rattle.armcaps_alt.specs.Words.{new_word, place_of}
+use Rattle.armcaps_patch.specs.declared.kept.Kept.{Kept}
+use Rattle.armcaps_patch.specs.Counting.{words_of_sites}
 use Rattle.armcaps_patch.specs.Kept.{Planned, StandsFor, kept_covers, kept_of, kept_word, planned_byte, planned_image}
 
 option_cases : {X : Type 0} (o : Option X) → (o ≡ None) ⊎ ((x : X) × (o ≡ Some x))
@@ -48,3 +52,19 @@ byte_is plan features image entries place kept ctr conduit = rw (kept, ctr, cond
 pub image_stands : (plan : Planned) (features : Features) (image : List ℕ) (layout : Layout) → StandsFor plan features image layout → planned_image plan image ≡ patched_image features image layout
 image_stands plan features image layout stands =
     map_same _ _ (λ place. byte_is plan features image (selected_of features image layout) place stands.kept stands.ctr stands.conduit) (range_with_len 0 (length image))
+
+-- as many are kept as are selected
+pub entries_stand : (plan : Planned) (features : Features) (image : List ℕ) (layout : Layout) → StandsFor plan features image layout → length plan.kept ≡ length (selected_of features image layout)
+entries_stand plan features image layout stands = ap length stands.kept ∙ length-map (selected_of features image layout) (kept_of features.names)
+
+-- a sum over what a function makes of a list
+sum_by-map : {X Y : Type 0} (g : Y → ℕ) (f : X → Y) (xs : List X) → sum_by g (map f xs) ≡ sum_by (λ (x : X). g (f x)) xs
+sum_by-map g f [] = refl
+sum_by-map {X} g f (x ∷ xs) =
+    omega (arith, sum_by-map g f xs, sum_by-cons g (f x) (map f xs), sum_by-cons (λ (x : X). g (f x)) x xs)
+
+-- and what is kept has as many words as the selected entries' sites
+pub words_stand : (plan : Planned) (features : Features) (image : List ℕ) (layout : Layout) → StandsFor plan features image layout
+    → sum_by (λ (kept : Kept). kept.len / 4) plan.kept ≡ words_of_sites (selected_of features image layout)
+words_stand plan features image layout stands =
+    ap (sum_by (λ (kept : Kept). kept.len / 4)) stands.kept ∙ sum_by-map (λ (kept : Kept). kept.len / 4) (kept_of features.names) (selected_of features image layout)

@@ -3,3 +3,4 @@ pub mod Replaced
 pub mod Features
 pub mod Index
 pub mod Kept
+pub mod Counting

@@ -1,12 +1,13 @@
-//! Plans of patched images: what they keep, and how they write.
+//! Plans of patched images: what they keep, how much it is, and how they write.
 
-ghost use Rattle.std.specs.Prelude.{◌≡◌, ◌+◌, ◌/◌, ◌%◌, ◌^◌, ◌<◌, ◌≤◌, ℕ, IfOk, OnErr, OnOk, length, map, slice_index};
+ghost use Rattle.std.specs.Prelude.{◌≡◌, ◌+◌, ◌/◌, ◌%◌, ◌^◌, ◌<◌, ◌≤◌, ℕ, List, IfOk, OnErr, OnOk, length, map, slice_index, sum_by};
 ghost use Rattle.std.specs.List.{All, range_with_len};
 ghost use Rattle.armcaps_io.specs.Causes.{Rose};
 ghost use Rattle.armcaps_io.specs.Streams.{Appends, AppendsPrefix};
 ghost use Rattle.armcaps_alt.specs.declared.table_place.Layout.{Layout};
-ghost use Rattle.armcaps_alt.specs.Entries.{Features};
+ghost use Rattle.armcaps_alt.specs.Entries.{Features, selected_of};
 ghost use Rattle.armcaps_alt.specs.Patched.{patched_image};
+ghost use Rattle.armcaps_patch.specs.Counting.{words_of_sites};
 ghost use Rattle.armcaps_patch.specs.Index.{IsSite, Tells, last_at};
 ghost use Rattle.armcaps_patch.specs.Kept.{IsKept, StandsFor, kept_covers, planned_byte, planned_image, sites_of};
 
@@ -64,6 +65,24 @@ impl Plan {
             ctr,
             conduit,
         })
+    }
+}
+
+impl Plan {
+    /// How many entries are selected.
+    pub fn count_entries(&self) -> u32
+        ensures { (features : Features) (image : List ℕ) (layout : Layout) → StandsFor self.now features image layout
+            → result ≡ length (selected_of features image layout) }
+    {
+        self.kept.as_slice().len() as u32
+    }
+
+    /// How many words the sites of the selected entries have: a word that lies in two sites counts twice.
+    pub fn count_words(&self) -> u32
+        ensures { (features : Features) (image : List ℕ) (layout : Layout) → StandsFor self.now features image layout
+            → result ≡ words_of_sites (selected_of features image layout) }
+    {
+        words_of_kept(&self.kept)
     }
 }
 
@@ -197,4 +216,16 @@ fn sites(alloc: Global, kept: &[Kept]) -> Result<Vec<Site>, AllocError>
         })?;
     }
     Ok(sites)
+}
+
+// How many words the sites of what is kept have.
+fn words_of_kept(kept: &[Kept]) -> u32
+    requires { length kept.now ≤ 2 ^ 26 }
+    ensures { result ≡ sum_by (λ entry. entry.len / 4) kept.now }
+{
+    let mut words = 0;
+    for entry in kept {
+        words += u32::from(entry.len / 4);
+    }
+    words
 }

@@ -89,7 +89,8 @@ fn image(
     Ok(image)
 }
 
-// What checking and writing give: the image that the sink got.
+// What checking and writing give: the image that the sink got, how many entries are selected, and how many words their
+// sites have.
 fn patched(
     rt: &impl Abort,
     alloc: Global,
@@ -97,7 +98,7 @@ fn patched(
     count: u32,
     names: &Names,
     boot: &Boot,
-) -> Result<Result<Vec<u8>, PatchRefused>, Fail> {
+) -> Result<Result<(Vec<u8>, u32, u32), PatchRefused>, Fail> {
     let layout = Layout { table: 0, count };
     assert!(rt;
         image.len() <= 1 << 29 && 12 * u64::from(count) <= image.len() as u64 && boot.is_final()
@@ -106,7 +107,8 @@ fn patched(
         Ok(plan) => {
             let mut sink = MemSink::new(alloc, image.len(), 4096, Vec::new(alloc))?;
             assert_eq!(rt; plan.write(image, &mut sink), Ok(()));
-            Ok(Ok(Vec::from_slice(alloc, sink.bytes())?))
+            let bytes = Vec::from_slice(alloc, sink.bytes())?;
+            Ok(Ok((bytes, plan.count_entries(), plan.count_words())))
         }
         Err(refused) => Ok(Err(refused)),
     }
@@ -182,7 +184,8 @@ type Words = &'static [(usize, u32)];
 
 const CALL: &'static [[u8; 12]] = &[[0x00, 0x01, 0, 0, 0xfc, 0x1f, 0, 0, 1, 0x80, 4, 0]];
 
-// The callback at 0x2000 and the conduit, the table, the words of the image, and what becomes of them.
+// The callback at 0x2000 and the conduit, the table, the words of the image, and what becomes of them; then how many entries
+// are selected, and how many words their sites have.
 #[test]
 fn images_are_patched(rt: HostRuntime) -> Result<(), Fail> {
     let none = Conduit::None;
@@ -192,6 +195,8 @@ fn images_are_patched(rt: HostRuntime) -> Result<(), Fail> {
         &'static [[u8; 12]],
         Words,
         Words,
+        u32,
+        u32,
     ); 11] = [
         (
             None,
@@ -199,6 +204,8 @@ fn images_are_patched(rt: HostRuntime) -> Result<(), Fail> {
             &[[0x00, 0x01, 0, 0, 0xfc, 0x1f, 0, 0, 1, 0, 8, 8]],
             &[(0x2000, 0x9400_0400), (0x2004, 0x1400_0001)],
             &[(0x100, 0x9400_0bc0), (0x104, 0x1400_0001)],
+            1,
+            2,
         ),
         (
             None,
@@ -206,6 +213,8 @@ fn images_are_patched(rt: HostRuntime) -> Result<(), Fail> {
             &[[0x00, 0x01, 0, 0, 0x0c, 0x20, 0, 0, 1, 0, 4, 4]],
             &[(0x2010, 0xf000_0000)],
             &[(0x100, 0xb000_0020)],
+            1,
+            1,
         ),
         (
             Some(CallbackKind::FinalCtr),
@@ -218,6 +227,8 @@ fn images_are_patched(rt: HostRuntime) -> Result<(), Fail> {
                 (0x108, 0xf2c0_0003),
                 (0x10c, 0xf2e0_0003),
             ],
+            1,
+            4,
         ),
         (
             None,
@@ -228,6 +239,8 @@ fn images_are_patched(rt: HostRuntime) -> Result<(), Fail> {
             ],
             &[(0x2000, NOP), (0x2004, NOP), (0x2008, 0xd400_0003)],
             &[(0x100, NOP), (0x104, 0xd400_0003)],
+            2,
+            3,
         ),
         (
             None,
@@ -238,6 +251,8 @@ fn images_are_patched(rt: HostRuntime) -> Result<(), Fail> {
             ],
             &[(0x2000, NOP), (0x2004, NOP)],
             &[(0x100, NOP), (0x104, NOP)],
+            1,
+            2,
         ),
         (
             Some(CallbackKind::Nops),
@@ -245,6 +260,8 @@ fn images_are_patched(rt: HostRuntime) -> Result<(), Fail> {
             CALL,
             &[(0x100, 0x1234_5678)],
             &[(0x100, NOP)],
+            1,
+            1,
         ),
         (
             Some(CallbackKind::Conduit),
@@ -252,6 +269,8 @@ fn images_are_patched(rt: HostRuntime) -> Result<(), Fail> {
             CALL,
             &[(0x100, 0x1234_5678)],
             &[(0x100, 0xd400_0002)],
+            1,
+            1,
         ),
         (
             Some(CallbackKind::Conduit),
@@ -259,6 +278,8 @@ fn images_are_patched(rt: HostRuntime) -> Result<(), Fail> {
             CALL,
             &[(0x100, 0x1234_5678)],
             &[(0x100, 0xd400_0003)],
+            1,
+            1,
         ),
         (
             Some(CallbackKind::Keep),
@@ -266,6 +287,8 @@ fn images_are_patched(rt: HostRuntime) -> Result<(), Fail> {
             CALL,
             &[(0x100, 0x1234_5678)],
             &[],
+            1,
+            1,
         ),
         (
             None,
@@ -273,6 +296,8 @@ fn images_are_patched(rt: HostRuntime) -> Result<(), Fail> {
             &[[0xfc, 0x0f, 0, 0, 0xfc, 0x17, 0, 0, 1, 0, 8, 8]],
             &[(0x1800, NOP), (0x1804, 0x9400_003f)],
             &[(0xffc, NOP), (0x1000, 0x9400_0240)],
+            1,
+            2,
         ),
         (
             None,
@@ -280,10 +305,12 @@ fn images_are_patched(rt: HostRuntime) -> Result<(), Fail> {
             &[[0x00, 0x01, 0, 0, 0xfc, 0x1f, 0, 0, 1, 0, 0, 0]],
             &[],
             &[],
+            1,
+            0,
         ),
     ];
     let boot = machine(&rt, rt.alloc(), 0x8444_8004)?;
-    for (callback, conduit, table, words, becomes) in rows {
+    for (callback, conduit, table, words, becomes, entries, in_sites) in rows {
         let names = names(rt.alloc(), callback, conduit)?;
         let original = image(&rt, rt.alloc(), 12288, table, words)?;
         let mut expected = Vec::from_slice(rt.alloc(), &original)?;
@@ -297,7 +324,7 @@ fn images_are_patched(rt: HostRuntime) -> Result<(), Fail> {
         );
         assert_eq!(&rt;
             patched(&rt, rt.alloc(), &original, count, &names, &boot)?,
-            Ok(expected)
+            Ok((expected, entries, in_sites))
         );
     }
     Ok(())
@@ -472,7 +499,7 @@ fn sites_overlap(rt: HostRuntime) -> Result<(), Fail> {
     );
     assert_eq!(&rt;
         patched(&rt, rt.alloc(), &original, 2000, &names, &boot)?,
-        Ok(expected)
+        Ok((expected, 2000, 126_000))
     );
     let mut pieces = Pieces {
         taken: 0,

@@ -1,5 +1,5 @@
 -- What is written of a machine that is made from a number.
-use Rattle.std.proofs.Common.{◌≡◌, ℕ, ◌≤◌, ◌^◌, true, List, [], ◌∷◌, None, refl, sym, ap, subst, ◌∙◌, arith}
+use Rattle.std.proofs.Common.{◌≡◌, ℕ, true, List, [], ◌∷◌, None, refl, sym, ap, subst, ◌∙◌}
 use Rattle.std.specs.Prelude.{Ok, reverse}
 use Rattle.armcaps_boot.specs.Admission.{halt_of, steps_made}
 use Rattle.armcaps_boot.specs.After.{IsAfter}
@@ -35,11 +35,6 @@ lines_are seed cores reading image world text after is =
 document_made : (seed cores : ℕ) (reading : Reading) (image : List ℕ) → reading ≡ generated_reading seed cores → image ≡ generated_image seed cores
     → record { reading = reading; image = image } ≡ generated_document seed cores
 document_made seed cores reading image reading_is image_is = rw (reading_is, image_is) refl
-
--- its table is short
-pub few_entries : (seed cores : ℕ) (reading : Reading) → reading ≡ generated_reading seed cores → reading.layout.count ≤ 2 ^ 20
-unfolding generated_reading
-few_entries seed cores reading is = omega (arith, ap (λ (r : Reading). r.layout.count) is)
 
 -- it is sound
 pub sound_too : (seed cores : ℕ) (reading : Reading) → reading ≡ generated_reading seed cores → IsSound (generated_reading seed cores) → IsSound reading

@@ -1,8 +1,8 @@
 -- Counts and sums over numbers from 0 on, one more at a time.
-use Rattle.std.proofs.Common.{◌≡◌, ℕ, ◌+◌, ◌≤◌, Bool, true, false, cond, List, [], ◌∷◌, ◌++◌, length, map, sym, ap, ◌∙◌, arith, append-nil, append_assoc, length-append}
-use Rattle.std.specs.List.{count_by, filter, range_with_len, sum_by}
+use Rattle.std.proofs.Common.{◌≡◌, ℕ, ◌+◌, ◌≤◌, Bool, true, false, cond, List, [], ◌∷◌, ◌++◌, sym, ap, ◌∙◌, arith, append_assoc}
+use Rattle.std.specs.List.{count_by, range_with_len, sum_by}
 use Rattle.std.proofs.lemmas.List.{map-id}
-use Rattle.std.proofs.lemmas.List.FromFn.{filter_of_map_range_with_len_more, map-range_with_len_more}
+use Rattle.std.proofs.lemmas.List.FromFn.{map-range_with_len_more}
 use Rattle.std.proofs.lemmas.List.Sums.{sum_by_push}
 
 range-more : (n : ℕ) → range_with_len 0 (n + 1) ≡ range_with_len 0 n ++ n ∷ []
@@ -19,25 +19,6 @@ count-more p n now one so_far is = sum-more (λ (k : ℕ). cond (p k) 1 0) n now
 pub at_most_one : (b : Bool) (one : ℕ) → one ≡ cond b 1 0 → one ≤ 1
 at_most_one true one is = omega (arith, is)
 at_most_one false one is = omega (arith, is)
-
--- those of a list that pass, with one more that may pass
-pub passing-count : {X : Type 0} (p : X → Bool) (f : ℕ → X) (n now one : ℕ) → now ≡ length (filter p (map f (range_with_len 0 n))) → one ≡ cond (p (f n)) 1 0 → now + one ≡ length (filter p (map f (range_with_len 0 (n + 1))))
-passing-count {X} p f n now one so_far is =
-    omega (arith, so_far, is, ap length (filter_of_map_range_with_len_more p f 0 n n (omega arith)), by (p (f n)))
-  where
-    by : (b : Bool) → length (filter p (map f (range_with_len 0 n)) ++ cond b (f n ∷ []) []) ≡ length (filter p (map f (range_with_len 0 n))) + cond b 1 0
-    by true = length-append (filter p (map f (range_with_len 0 n))) (f n ∷ [])
-    by false = length-append (filter p (map f (range_with_len 0 n))) []
-
-pub passing-sum : {X : Type 0} (p : X → Bool) (f : ℕ → X) (g : X → ℕ) (n now one : ℕ) → now ≡ sum_by g (filter p (map f (range_with_len 0 n))) → one ≡ cond (p (f n)) (g (f n)) 0 → now + one ≡ sum_by g (filter p (map f (range_with_len 0 (n + 1))))
-passing-sum {X} p f g n now one so_far is =
-    omega (arith, so_far, is, ap (sum_by g) (filter_of_map_range_with_len_more p f 0 n n (omega arith)), by (p (f n)))
-  where
-    by : (b : Bool) → sum_by g (filter p (map f (range_with_len 0 n)) ++ cond b (f n ∷ []) []) ≡ sum_by g (filter p (map f (range_with_len 0 n))) + cond b (g (f n)) 0
-    by true = sum_by_push g (filter p (map f (range_with_len 0 n))) (f n)
-    by false =
-        let same : sum_by g (filter p (map f (range_with_len 0 n)) ++ []) ≡ sum_by g (filter p (map f (range_with_len 0 n))) = ap (sum_by g) (append-nil (filter p (map f (range_with_len 0 n)))) in
-        omega (arith, same)
 
 -- a line with one number, and a line with two
 pub one_number : (first number last : List ℕ) → first ++ (number ++ last) ≡ first ++ number ++ last

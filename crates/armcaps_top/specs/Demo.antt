@@ -34,10 +34,6 @@ stands_parked _ = false
 abbrev pub cores_that : (CoreState → Bool) → Findings → ℕ
 cores_that test found = count_by (λ number. test (state_at found.states number)) (range_with_len 0 (length found.cores))
 
--- how many words the sites of entries have
-abbrev pub words_of_sites : List Entry → ℕ
-words_of_sites entries = sum_by (λ entry. entry.orig_len / 4) entries
-
 -- how many words of an image the sites of entries cover: those whose first byte lies in the site of some entry
 abbrev pub words_covered : List ℕ → List Entry → ℕ
 words_covered image entries = count_by (λ index. list_any (covers (4 * index)) entries) (range_with_len 0 (length image / 4))

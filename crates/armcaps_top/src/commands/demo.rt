@@ -1,26 +1,25 @@
 //! `demo SEED CORES`: what comes of a machine and its image that are made from a number.
 
-ghost use Rattle.std.specs.Prelude.{◌≡◌, ◌+◌, ◌*◌, ◌/◌, ◌<◌, ◌≤◌, ◌^◌, [], cond, Some, None, Ok, true, IfOk, length, string_bytes};
+ghost use Rattle.std.specs.Prelude.{◌≡◌, ◌+◌, ◌*◌, ◌≤◌, ◌^◌, [], cond, Some, None, Ok, true, IfOk, length, string_bytes};
 ghost use Rattle.armcaps_alt.specs.Bytes.{word_in};
-ghost use Rattle.armcaps_alt.specs.Entries.{Features, entry_at, is_selected, is_there, selected_of};
-ghost use Rattle.armcaps_alt.specs.Names.{IsKnown};
+ghost use Rattle.armcaps_alt.specs.Entries.{Features, selected_of};
 ghost use Rattle.armcaps_alt.specs.Patched.{patched_image};
 ghost use Rattle.armcaps_alt.specs.Refusals.{first_refusal};
 ghost use Rattle.armcaps_alt.specs.declared.table_place.Layout.{Layout as Place};
 ghost use Rattle.armcaps_boot.specs.Findings.{findings_of};
 ghost use Rattle.armcaps_boot.specs.Outcome.{IsSafe};
-ghost use Rattle.armcaps_boot.specs.Safety.{is_enabled};
 ghost use Rattle.armcaps_boot.specs.World.{state_at};
+ghost use Rattle.armcaps_patch.specs.Counting.{words_of_sites};
 ghost use Rattle.armcaps_patch.specs.Features.{features_of};
 ghost use Rattle.armcaps_patch.specs.Kept.{StandsFor};
-ghost use Rattle.armcaps_top.specs.Demo.{cores_that, counts_of, demo_lines, generated_document, is_changed, stands_parked, stands_admitted, sum_of_words, words_changed, words_covered, words_of_sites};
+ghost use Rattle.armcaps_top.specs.Demo.{cores_that, counts_of, demo_lines, generated_document, is_changed, stands_parked, stands_admitted, sum_of_words, words_changed, words_covered};
 ghost use Rattle.armcaps_top.specs.Inside.{LeavesAfter};
 ghost use Rattle.armcaps_top.specs.Output.{board_of};
 ghost use Rattle.armcaps_top.specs.Run.{steps_of, written_of};
 
 use crate::bringing::{begin, bring_up};
 use crate::commands::Command;
-use armcaps_alt::{Entry, Layout, Named, Names};
+use armcaps_alt::{Layout, Names};
 use armcaps_boot::{Boot, CoreState};
 use armcaps_io::{Failed, Sink};
 use armcaps_patch::{PatchRefused, Plan};
@@ -123,78 +122,6 @@ fn compare(image: &[u8], patched: &[u8]) -> (u32, u64)
     (different, sum)
 }
 
-// Whether what a number stands for is there.
-fn is_there(named: Named, boot: &Boot) -> bool
-    requires finalised { boot.now.final ≡ true }
-    requires known { IsKnown named }
-    ensures { result ≡ is_there (is_enabled boot.now) named }
-{
-    match named {
-        Named::Cap(number) => boot.enabled(number),
-        Named::Given(on) => on,
-    }
-}
-
-// Whether an entry is selected.
-fn is_selected(entry: &Entry, names: &Names, boot: &Boot) -> bool
-    requires finalised { boot.now.final ≡ true }
-    ensures { result ≡ is_selected (features_of boot.now names.now) entry.now }
-{
-    match names.find(entry.number) {
-        Some(named) => is_there(named, boot),
-        None => false,
-    }
-}
-
-// The entry of the table that has this number.
-fn entry_at(image: &[u8], layout: Layout, index: u32) -> Entry
-    requires size { length image.now ≤ 2 ^ 29 }
-    requires table { layout.table + 12 * layout.count ≤ length image.now }
-    requires index { index < layout.count }
-    ensures { result ≡ entry_at image.now layout index }
-{
-    let place = layout.table as usize + 12 * index as usize;
-    Entry::read(&image[place..], place as u64)
-}
-
-// One and the number of its site's words where the entry with this number is selected, and else none.
-fn selected(image: &[u8], layout: Layout, index: u32, names: &Names, boot: &Boot) -> (u32, u32)
-    requires size { length image.now ≤ 2 ^ 29 }
-    requires table { layout.table + 12 * layout.count ≤ length image.now }
-    requires index { index < layout.count }
-    requires finalised { boot.now.final ≡ true }
-    ensures one { result.0 ≡ cond (is_selected (features_of boot.now names.now) (entry_at image.now layout index)) 1 0 }
-    ensures words { result.1 ≡ cond (is_selected (features_of boot.now names.now) (entry_at image.now layout index)) ((entry_at image.now layout index).orig_len / 4) 0 }
-    ensures few { result.0 ≤ 1 }
-    ensures short { result.1 < 64 }
-{
-    let entry = entry_at(image, layout, index);
-    if is_selected(&entry, names, boot) {
-        (1, u32::from(entry.orig_len / 4))
-    } else {
-        (0, 0)
-    }
-}
-
-// How many entries are selected, and how many words their sites have.
-fn count_entries(image: &[u8], layout: Layout, names: &Names, boot: &Boot) -> (u32, u32)
-    requires size { length image.now ≤ 2 ^ 29 }
-    requires table { layout.table + 12 * layout.count ≤ length image.now }
-    requires few { layout.count ≤ 2 ^ 20 }
-    requires finalised { boot.now.final ≡ true }
-    ensures selected { result.0 ≡ length (selected_of (features_of boot.now names.now) image.now layout) }
-    ensures covered { result.1 ≡ words_of_sites (selected_of (features_of boot.now names.now) image.now layout) }
-{
-    let mut count = 0;
-    let mut covered = 0;
-    for index in 0..layout.count {
-        let (one, words) = selected(image, layout, index, names, boot);
-        count += one;
-        covered += words;
-    }
-    (count, covered)
-}
-
 // One for a core that is admitted, and one for a core that is held back.
 fn standing(state: CoreState) -> (u32, u32)
     ensures admitted { result.0 ≡ cond (stands_admitted state) 1 0 }
@@ -233,7 +160,28 @@ fn count_cores(boot: &Boot) -> (u32, u32)
     (admitted, parked)
 }
 
-// What is counted of a machine and its image.
+// The plan of an image, no entry of which is refused.
+fn plan_of(
+    alloc: Global,
+    boot: &Boot,
+    names: &Names,
+    image: &[u8],
+    layout: Layout,
+) -> Result<Plan, AllocError>
+    requires size { length image.now ≤ 2 ^ 29 }
+    requires table { layout.table + 12 * layout.count ≤ length image.now }
+    requires finalised { boot.now.final ≡ true }
+    requires accepted { first_refusal (features_of boot.now names.now) image.now layout ≡ None }
+    ensures { IfOk result (λ plan. StandsFor plan (features_of boot.now names.now) image.now layout) }
+{
+    match Plan::check(alloc, image, layout, names, boot) {
+        Ok(plan) => Ok(plan),
+        Err(PatchRefused::Memory) => Err(AllocError),
+        Err(PatchRefused::Entry { .. }) => unreachable!(),
+    }
+}
+
+// What is counted of a machine and its image, no entry of which is refused, and no two selected sites of which overlap.
 #[tactic(auto, unfolding(crate::specs::Demo::counts_of))]
 fn counts_of(
     alloc: Global,
@@ -241,26 +189,24 @@ fn counts_of(
     names: &Names,
     image: &[u8],
     layout: Layout,
-    plan: &Plan,
 ) -> Result<Counts, AllocError>
     requires size { length image.now ≤ 2 ^ 29 }
     requires table { layout.table + 12 * layout.count ≤ length image.now }
-    requires few { layout.count ≤ 2 ^ 20 }
     requires finalised { boot.now.final ≡ true }
-    requires stands { StandsFor plan.now (features_of boot.now names.now) image.now layout }
+    requires accepted { first_refusal (features_of boot.now names.now) image.now layout ≡ None }
     requires apart { let entries = selected_of (features_of boot.now names.now) image.now layout in
         words_covered image.now entries ≡ words_of_sites entries }
     ensures { IfOk result (λ counts. counts ≡ counts_of (findings_of boot.now) (features_of boot.now names.now) image.now layout) }
 {
+    let plan = plan_of(alloc, boot, names, image, layout)?;
+    let new = patched(alloc, &plan, image)?;
     let (admitted, parked) = count_cores(boot);
-    let (selected, covered) = count_entries(image, layout, names, boot);
-    let new = patched(alloc, plan, image)?;
     let (changed, sum) = compare(image, &new);
     Ok(Counts {
         admitted,
         parked,
-        selected,
-        covered,
+        selected: plan.count_entries(),
+        covered: plan.count_words(),
         changed,
         sum,
     })
@@ -299,7 +245,6 @@ fn demo_text(
 ) -> Result<String, AllocError>
     requires size { length image.now ≤ 2 ^ 29 }
     requires table { layout.table + 12 * layout.count ≤ length image.now }
-    requires few { layout.count ≤ 2 ^ 20 }
     requires finalised { boot.now.final ≡ true }
     requires accepted { first_refusal (features_of boot.now names.now) image.now layout ≡ None }
     requires apart { let entries = selected_of (features_of boot.now names.now) image.now layout in
@@ -307,12 +252,7 @@ fn demo_text(
     ensures { IfOk result (λ text. string_bytes text
         ≡ demo_lines seed cores (counts_of (findings_of boot.now) (features_of boot.now names.now) image.now layout)) }
 {
-    let plan = match Plan::check(alloc, image, layout, names, boot) {
-        Ok(plan) => plan,
-        Err(PatchRefused::Memory) => return Err(AllocError),
-        Err(PatchRefused::Entry { .. }) => unreachable!(),
-    };
-    let counts = counts_of(alloc, boot, names, image, layout, &plan)?;
+    let counts = counts_of(alloc, boot, names, image, layout)?;
     demo_lines(alloc, seed, cores, &counts)
 }
 

@@ -7,7 +7,7 @@ use Rattle.armcaps_top.proofs.commands.demo.counts_of.Goals as goal
 
 pub compare-changed-requires-clause-same : goal.compare-changed-requires-clause-same
 compare-changed-requires-clause-same c =
-    ap length (c.deref.ensures.value ∙ c.in_ok-new.ensures (features_of c.args.boot.now c.args.names.now) c.args.layout c.requires.stands)
+    ap length (c.deref.ensures.value ∙ c.in_ok-new.ensures (features_of c.args.boot.now c.args.names.now) c.args.layout c.in_ok-plan.ensures)
     ∙ length-map-range_with_len _ 0 (length c.args.image.now)
 
 pub returns : goal.returns
@@ -15,14 +15,15 @@ unfolding counts_of
 returns c =
     let features = features_of c.args.boot.now c.args.names.now in
     let patched : c.deref.result.now ≡ patched_image features c.args.image.now c.args.layout =
-    c.deref.ensures.value ∙ c.in_ok-new.ensures features c.args.layout c.requires.stands in
-    let covered = c.count_entries-selected.ensures.covered ∙ sym c.requires.apart in
+    c.deref.ensures.value ∙ c.in_ok-new.ensures features c.args.layout c.in_ok-plan.ensures in
+    let covered = c.count_words.ensures features c.args.image.now c.args.layout c.in_ok-plan.ensures ∙ sym c.requires.apart in
+    let selected = c.count_entries.ensures features c.args.image.now c.args.layout c.in_ok-plan.ensures in
     let changed = c.compare-changed.ensures.changed ∙ ap (words_changed c.args.image.now) patched in
     let sum = c.compare-changed.ensures.sum ∙ ap sum_of_words patched in
     λ i. record {
       admitted = c.count_cores-admitted.ensures.admitted i;
       parked = c.count_cores-admitted.ensures.parked i;
-      selected = c.count_entries-selected.ensures.selected i;
+      selected = selected i;
       covered = covered i;
       changed = changed i;
       sum = sum i;

@@ -6,7 +6,7 @@ use Rattle.armcaps_patch.specs.Features.{features_of}
 use Rattle.armcaps_text.specs.Document.{reading_of}
 use Rattle.armcaps_top.specs.Demo.{counts_of, demo_lines}
 use Rattle.armcaps_top.proofs.Answered.{begun_on, pushed}
-use Rattle.armcaps_top.proofs.Generated.{brought_up, few_entries, left, sound_too, told}
+use Rattle.armcaps_top.proofs.Generated.{brought_up, left, sound_too, told}
 use Rattle.armcaps_top.proofs.GeneratedSites.{generated_apart}
 use Rattle.armcaps_top.proofs.commands.demo.demo_answer.Goals as goal
 
@@ -17,9 +17,6 @@ begin-requires c =
 
 pub bring_up-requires : goal.bring_up-requires
 bring_up-requires c = (begun_on c.in_ok-boot.ensures.begun c.deref.ensures.value).at
-
-pub demo_text-requires-clause-few : goal.demo_text-requires-clause-few
-demo_text-requires-clause-few c = few_entries c.args.seed c.args.cores (reading_of c.in_ok-machine.machine) c.in_ok-machine.ensures.reading
 
 pub demo_text-requires-clause-finalised : goal.demo_text-requires-clause-finalised
 demo_text-requires-clause-finalised c =
