@@ -1,9 +1,10 @@
 -- The limits of the formats, and inputs that are longer.
-use Rattle.std.proofs.Common.{◌≡◌, ℕ, ◌<◌, ◌≤◌, ◌⊎◌, inl, inr, Bool, true, false, cond, nat_lt, List, [], ◌++◌, length, Option, None, Some, refl, sym, ap, ◌∙◌, arith, length-append, lit≤}
+use Rattle.std.proofs.Common.{◌≡◌, ℕ, ◌+◌, ◌<◌, ◌≤◌, ◌⊎◌, inl, inr, Bool, true, false, cond, nat_lt, List, [], ◌++◌, length, Option, None, Some, refl, sym, ap, ◌∙◌, arith, length-append, lit≤}
 use Rattle.std.specs.Prelude.{IfSome, Err, option_and_then, slice_get, unwrap_or}
 use Rattle.std.proofs.lemmas.Bool.Decides.{nat_tests}
 use Rattle.std.proofs.lemmas.List.{take-append-le}
-use Rattle.armcaps_io.specs.Streams.{Moves}
+use Rattle.armcaps_io.specs.Streams.{GivesAtMost, Moves}
+use Rattle.armcaps_io.proofs.StreamLemmas.{Moves-trans}
 use Rattle.armcaps_text.specs.Formats.{format_named, format_of, format_one, format_two}
 use Rattle.armcaps_text.specs.Lines.{ended_lines, first_mebibyte, lines_of}
 use Rattle.armcaps_text.specs.declared.format.Format.{Format}
@@ -59,3 +60,13 @@ too_long (Some input) (Some rest) bytes limit moved long most is =
 -- bytes that grow past the first 1,048,576 keep their format
 pub grown_format : (left after : Option (List ℕ)) (before bytes : List ℕ) → Moves left after before bytes → 1048576 ≤ length before → format_of bytes ≡ format_of before
 grown_format left after before bytes moved most = ap (λ (i : List ℕ). format_of i) moved.grown ∙ same_format before moved.part most
+
+-- a source gave in two calls no more than one byte past the limit of a format
+pub gave_at_most : (left between after : Option (List ℕ)) (first bytes : List ℕ) (limit : ℕ) → Moves left between [] first → Moves between after first bytes
+    → (format_of first).input ≡ limit → length bytes ≤ limit + 1 → GivesAtMost left after 537919489
+gave_at_most left between after first bytes limit before more is within =
+    let moved : Moves left after [] bytes = Moves-trans left between after [] first bytes before more in record {
+      part = moved.part;
+      count = omega (arith, sym (ap length moved.grown), within, is, (limits first).most);
+      given = moved.given;
+    }

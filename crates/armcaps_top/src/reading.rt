@@ -1,8 +1,8 @@
 //! Reading the input, up to the limit of its format.
 
-ghost use Rattle.std.specs.Prelude.{◌≡◌, ◌≤◌, ◌<◌, ◌+◌, ◌^◌, [], IfOk, IfErr, Ok, true, false, length};
+ghost use Rattle.std.specs.Prelude.{◌≡◌, ◌≤◌, ◌<◌, ◌+◌, ◌^◌, ℕ, [], IfOk, IfErr, Ok, Err, true, false, length};
 ghost use Rattle.armcaps_io.specs.Causes.{Rose};
-ghost use Rattle.armcaps_io.specs.Streams.{GivesAll, IsAtEnd, Moves};
+ghost use Rattle.armcaps_io.specs.Streams.{GivesAll, GivesAtMost, GivesCount, IsAtEnd, Moves};
 ghost use Rattle.armcaps_text.specs.Formats.{format_of};
 ghost use Rattle.armcaps_top.specs.Inside.{IsFailure, IsUnread};
 
@@ -17,6 +17,7 @@ fn read_past<S: Source>(source: &mut S, bytes: &mut Vec<u8>, limit: usize) -> Re
     requires within { length bytes.old.items ≤ limit + 1 }
     requires small { limit < 2 ^ 32 }
     ensures moved { Moves (S.left source.old) (S.left source.new) bytes.old.items bytes.new.items }
+    ensures bounded { length bytes.new.items ≤ limit + 1 }
     ensures ended { result ≡ Ok true → IsAtEnd (S.left source.new) }
     ensures within { result ≡ Ok true → length bytes.new.items ≤ limit }
     ensures full { result ≡ Ok false → length bytes.new.items ≡ limit + 1 }
@@ -30,11 +31,16 @@ fn read_past<S: Source>(source: &mut S, bytes: &mut Vec<u8>, limit: usize) -> Re
     }
 }
 
-/// All bytes of an input that has no more of them than its format allows, or else why it was not read.
+/// All bytes of an input that has no more of them than its format allows, or else why it was not read. Of an input that
+/// is refused for its length one byte more than the limit is read, and of none more than one byte past the greatest limit
+/// of a format.
 pub fn read_input<S: Source>(alloc: Global, source: &mut S) -> Result<Vec<u8>, Ending>
     ensures whole { IfOk result (λ bytes. GivesAll (S.left source.old) (S.left source.new) bytes.items) }
     ensures within { IfOk result (λ bytes. length bytes.items ≤ (format_of bytes.items).input) }
     ensures unread { IfErr result (IsUnread (S.left source.old) (S.faults source.old) (S.faults source.new)) }
+    ensures one_more { (limit : ℕ) → result ≡ Err (Ending.Refused (Refusal.TooLong limit)) →
+        GivesCount (S.left source.old) (S.left source.new) (limit + 1) }
+    ensures at_most { GivesAtMost (S.left source.old) (S.left source.new) 537919489 }
     ensures never_falls { S.faults source.old ≤ S.faults source.new }
 {
     let mut bytes = Vec::new(alloc);

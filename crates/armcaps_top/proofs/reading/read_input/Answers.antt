@@ -3,7 +3,7 @@ use Rattle.armcaps_io.specs.Streams.{Moves}
 use Rattle.armcaps_io.proofs.StreamLemmas.{Moves-trans}
 use Rattle.armcaps_text.specs.Formats.{format_of}
 use Rattle.armcaps_text.specs.declared.format.Format.{Format}
-use Rattle.armcaps_top.proofs.Limits.{grown_format, limits, too_long}
+use Rattle.armcaps_top.proofs.Limits.{gave_at_most, grown_format, limits, too_long}
 use Rattle.armcaps_top.proofs.reading.read_input.Goals as goal
 
 pub returns-then-ended-clause-within : goal.returns-then-ended-clause-within
@@ -61,3 +61,27 @@ returns-else-ended_further-clause-unread g c =
     let longer : length more ≡ c.of-limit.result.input + 1 = c.in_ok-ended_further.ensures.full (ap Ok c.if-ended_further.false) in
     let moved = Moves-trans (g.S.Source.left c.args.source.now) (g.S.Source.left c.read_past.new.source) (g.S.Source.left c.read_past-2.new.source) [] bytes more (subst (λ (none : List ℕ). Moves (g.S.Source.left c.args.source.now) (g.S.Source.left c.read_past.new.source) none bytes) c.new-bytes.ensures.items c.read_past.ensures.moved) c.read_past-2.ensures.moved in
     too_long (g.S.Source.left c.args.source.now) (g.S.Source.left c.read_past-2.new.source) more c.of-limit.result.input moved (omega (arith, longer)) (omega (arith, longer, is, (limits bytes).least)) (same ∙ sym is)
+
+pub returns-in_err-ended_further-clause-at_most : goal.returns-in_err-ended_further-clause-at_most
+returns-in_err-ended_further-clause-at_most g c =
+    let bytes : List ℕ = c.read_past.new.bytes.items in
+    let is : c.of-limit.result.input ≡ (format_of bytes).input =
+    ap (λ (f : Format). f.input) (c.of-limit.ensures ∙ ap (λ (b : List ℕ). format_of b) c.deref.ensures.value) in
+    let first = subst (λ (none : List ℕ). Moves (g.S.Source.left c.args.source.now) (g.S.Source.left c.read_past.new.source) none bytes) c.new-bytes.ensures.items c.read_past.ensures.moved in
+    gave_at_most _ _ _ bytes c.read_past-2.new.bytes.items c.of-limit.result.input first c.read_past-2.ensures.moved (sym is) c.read_past-2.ensures.bounded
+
+pub returns-then-ended_further-clause-at_most : goal.returns-then-ended_further-clause-at_most
+returns-then-ended_further-clause-at_most g c =
+    let bytes : List ℕ = c.read_past.new.bytes.items in
+    let is : c.of-limit.result.input ≡ (format_of bytes).input =
+    ap (λ (f : Format). f.input) (c.of-limit.ensures ∙ ap (λ (b : List ℕ). format_of b) c.deref.ensures.value) in
+    let first = subst (λ (none : List ℕ). Moves (g.S.Source.left c.args.source.now) (g.S.Source.left c.read_past.new.source) none bytes) c.new-bytes.ensures.items c.read_past.ensures.moved in
+    gave_at_most _ _ _ bytes c.read_past-2.new.bytes.items c.of-limit.result.input first c.read_past-2.ensures.moved (sym is) c.read_past-2.ensures.bounded
+
+pub returns-else-ended_further-clause-at_most : goal.returns-else-ended_further-clause-at_most
+returns-else-ended_further-clause-at_most g c =
+    let bytes : List ℕ = c.read_past.new.bytes.items in
+    let is : c.of-limit.result.input ≡ (format_of bytes).input =
+    ap (λ (f : Format). f.input) (c.of-limit.ensures ∙ ap (λ (b : List ℕ). format_of b) c.deref.ensures.value) in
+    let first = subst (λ (none : List ℕ). Moves (g.S.Source.left c.args.source.now) (g.S.Source.left c.read_past.new.source) none bytes) c.new-bytes.ensures.items c.read_past.ensures.moved in
+    gave_at_most _ _ _ bytes c.read_past-2.new.bytes.items c.of-limit.result.input first c.read_past-2.ensures.moved (sym is) c.read_past-2.ensures.bounded
