@@ -7,7 +7,7 @@ use Rattle.armcaps_alt.specs.declared.patch_kind.PatchKind.{PatchKind}
 use Rattle.armcaps_boot.specs.declared.halt.Halt.{Halt}
 use Rattle.armcaps_boot.specs.World.{World}
 use Rattle.armcaps_io.specs.Causes.{Rose}
-use Rattle.armcaps_io.specs.Streams.{Appends, Keeps}
+use Rattle.armcaps_io.specs.Streams.{Appends, GivesAtMost, Keeps}
 use Rattle.armcaps_top.specs.Commands.{command_of}
 use Rattle.armcaps_top.specs.Document.{Document}
 use Rattle.armcaps_top.specs.Ending.{status_of}
@@ -224,9 +224,9 @@ made_can command ending ends = record {
 -- a run of a command
 pub promised : (words : List (List ℕ)) (command : Command) (input out err : Change) (machines : List World) (ending : Ending)
     → command_of words ≡ Some command → Performs command (document_for (Some command) input.old) input out machines ending
-    → CanEnd command ending → (reads_input (Some command) ≡ false → Keeps input.old input.new) → EndsAsMade command ending
+    → CanEnd command ending → (reads_input (Some command) ≡ false → Keeps input.old input.new) → GivesAtMost input.old input.new 537919489 → EndsAsMade command ending
     → Tells ending err.old err.new err.before err.now → Promises words input out err machines (status_of ending)
-promised words command input out err machines ending is does can unread made told =
+promised words command input out err machines ending is does can unread at_most made told =
     let found : Option (Result Document Refusal) = document_for (Some command) input.old in
     let at : (e : Ending) → ending ≡ e → Reason (Some command) found input out e =
     λ e same. subst (λ (x : Ending). Reason (Some command) found input out x) same does.reason in record {
@@ -236,6 +236,7 @@ promised words command input out err machines ending is does can unread made tol
       told = told;
       usage = (λ two. absurd (does.form (usage_of ending two)), λ none. absurd (let no : ⊥ = cc in no));
       unread = rw is unread;
+      read_at_most = at_most;
       done = λ zero. rw is (at Done (done_of ending zero));
       safe = λ zero. rw is (does.safe (done_of ending zero));
       refused = λ three. rw is
@@ -269,6 +270,11 @@ keeps : (bytes : Option (List ℕ)) → Keeps bytes bytes
 keeps None = tt
 keeps (Some bytes) = refl
 
+-- an input of which nothing is read
+pub gives_none : (bytes : Option (List ℕ)) (n : ℕ) → GivesAtMost bytes bytes n
+gives_none None n = record { part = []; count = omega (arith); given = tt }
+gives_none (Some bytes) n = record { part = []; count = omega (arith); given = refl }
+
 -- a run of words that are no form
 pub promised_nothing : (words : List (List ℕ)) (input out err : Change) (machines : List World)
     → command_of words ≡ None → input.new ≡ input.old → out.new ≡ out.old → machines ≡ [] → Tells Usage err.old err.new err.before err.now
@@ -281,6 +287,7 @@ promised_nothing words input out err machines is same_input same_out none told =
       told = told;
       usage = (λ two. is, λ none. refl);
       unread = λ none. kept;
+      read_at_most = subst (λ (b : Option (List ℕ)). GivesAtMost input.old b 537919489) (sym same_input) (gives_none input.old 537919489);
       done = λ zero. absurd (omega (arith, zero));
       safe = λ zero. absurd (omega (arith, zero));
       refused = λ three. absurd (omega (arith, three));

@@ -12,7 +12,7 @@ use Rattle.armcaps_boot.specs.Outcome.{IsSafe}
 use Rattle.armcaps_boot.specs.Steps.{history}
 use Rattle.armcaps_boot.specs.World.{World}
 use Rattle.armcaps_io.specs.Causes.{Rose}
-use Rattle.armcaps_io.specs.Streams.{Appends, AppendsPrefix, Keeps}
+use Rattle.armcaps_io.specs.Streams.{Appends, AppendsPrefix, GivesAtMost, Keeps}
 use Rattle.armcaps_top.specs.Commands.{command_of}
 use Rattle.armcaps_top.specs.Demo.{demo_output, generated_document}
 use Rattle.armcaps_top.specs.Document.{Document, document}
@@ -142,6 +142,8 @@ pub record Promises (words : List (List ℕ)) (input out err : Change) (machines
   pub usage : (status ≡ 2) ↔ (command_of words ≡ None)
   -- where they are none, and where the command reads no input, the input is as it was
   pub unread : reads_input (command_of words) ≡ false → Keeps input.old input.new
+  -- of no input more is read than one byte past 537,919,488, the greatest limit of a format
+  pub read_at_most : GivesAtMost input.old input.new 537919489
   -- the output got what the command writes of the document that it works on, and nothing else; a command that reads read the whole input
   pub done : status ≡ 0 → Writes (answer_for (command_of words) (document_for (command_of words) input.old)) out
       × (reads_input (command_of words) ≡ true → IsReadWhole input)

@@ -10,6 +10,7 @@ ghost use Rattle.armcaps_patch.specs.Kept.{StandsFor};
 ghost use Rattle.armcaps_boot.specs.Outcome.{IsSafe};
 ghost use Rattle.armcaps_boot.specs.Steps.{history};
 ghost use Rattle.armcaps_boot.specs.World.{World};
+ghost use Rattle.armcaps_io.specs.Streams.{GivesAtMost};
 ghost use Rattle.armcaps_text.specs.Document.{reading_of};
 ghost use Rattle.armcaps_text.specs.Sound.{IsSound};
 ghost use Rattle.armcaps_top.specs.Inside.{CanEnd, IsInstead, LeavesAfter, Performs};
@@ -103,6 +104,7 @@ fn answer_query<S: Source, O: Sink>(
 ) -> Ending
     requires { machines.old.items ≡ [] }
     ensures ends { CanEnd (Command.Ask query) result }
+    ensures read_at_most { GivesAtMost (S.left input.old) (S.left input.new) 537919489 }
     ensures performs { Performs (Command.Ask query) (option_map document (S.left input.old))
         (record { old = S.left input.old; new = S.left input.new; before = S.faults input.old; now = S.faults input.new })
         (record { old = O.held out.old; new = O.held out.new; before = O.faults out.old; now = O.faults out.new })
@@ -143,6 +145,7 @@ fn patch_image<S: Source, O: Sink>(
 ) -> Ending
     requires { machines.old.items ≡ [] }
     ensures ends { CanEnd Command.Patch result }
+    ensures read_at_most { GivesAtMost (S.left input.old) (S.left input.new) 537919489 }
     ensures performs { Performs Command.Patch (option_map document (S.left input.old))
         (record { old = S.left input.old; new = S.left input.new; before = S.faults input.old; now = S.faults input.new })
         (record { old = O.held out.old; new = O.held out.new; before = O.faults out.old; now = O.faults out.new })
@@ -198,7 +201,8 @@ fn demo<O: Sink>(
 /// patched for the machine, what a program on the core reads by the instruction, or the trace of the steps. Where they
 /// are `demo SEED CORES`, reads nothing, makes a machine and its image from the seed, and writes what comes of both:
 /// only the statuses 0, 5 and 6 come. Every other status than 0 has a line on `err`. `machines` has to be empty, and
-/// gets the machine that was brought up: one in the statuses 0, 5 and 7 to 9, and none in 2 to 4.
+/// gets the machine that was brought up: one in the statuses 0, 5 and 7 to 9, and none in 2 to 4. Of no input more than
+/// 537,919,489 bytes are read.
 ///
 /// - 0: done.
 /// - 2: the words are no form. They are judged without memory, and nothing is read.

@@ -7,7 +7,7 @@ use Rattle.armcaps_top.specs.declared.commands.Command.TheVariants.{Ask, Patch, 
 use Rattle.armcaps_top.specs.declared.ending.Ending.{Ending}
 use Rattle.armcaps_top.proofs.CoreCounts.{cores_are}
 use Rattle.armcaps_top.proofs.Performing.{keeps}
-use Rattle.armcaps_top.proofs.Promising.{made_can, promised, promised_nothing}
+use Rattle.armcaps_top.proofs.Promising.{gives_none, made_can, promised, promised_nothing}
 use Rattle.armcaps_top.proofs.program.run.Goals.{in-Some-Ask, in-Some-Patch, in-Some-Demo, in-None}
 use Rattle.armcaps_top.proofs.program.run.Goals as goal
 
@@ -41,15 +41,15 @@ returns-clause-promises g c =
     elim c.match-of.branch [
       | in-Some-Ask w ↦ rw (w.input-is, w.out-is, w.machines-is, c.status.ensures, w.ending-is)
           (promised (map string_bytes c.args.words.now) (Ask w.in-Some-Ask.query) _ _ _ _ w.answer_query-ending.result (sym c.of.ensures ∙ search rules) w.answer_query-ending.ensures.performs
-          w.answer_query-ending.ensures.ends (λ reads. absurd (let no : ⊥ = cc in no)) (λ seed cores same. absurd (let no : ⊥ = cc in no))
+          w.answer_query-ending.ensures.ends (λ reads. absurd (let no : ⊥ = cc in no)) w.answer_query-ending.ensures.read_at_most (λ seed cores same. absurd (let no : ⊥ = cc in no))
           (subst (λ (ending : Ending). Tells ending old new before now) w.ending-is c.tell.ensures))
       | in-Some-Patch w ↦ rw (w.input-is, w.out-is, w.machines-is, c.status.ensures, w.ending-is)
           (promised (map string_bytes c.args.words.now) Patch _ _ _ _ w.patch_image-ending.result (sym c.of.ensures ∙ search rules) w.patch_image-ending.ensures.performs
-          w.patch_image-ending.ensures.ends (λ reads. absurd (let no : ⊥ = cc in no)) (λ seed cores same. absurd (let no : ⊥ = cc in no))
+          w.patch_image-ending.ensures.ends (λ reads. absurd (let no : ⊥ = cc in no)) w.patch_image-ending.ensures.read_at_most (λ seed cores same. absurd (let no : ⊥ = cc in no))
           (subst (λ (ending : Ending). Tells ending old new before now) w.ending-is c.tell.ensures))
       | in-Some-Demo w ↦ rw (w.input-is, w.out-is, w.machines-is, c.status.ensures, w.ending-is)
           (promised (map string_bytes c.args.words.now) (Demo w.in-Some-Demo.seed w.in-Some-Demo.cores) _ _ _ _ w.demo-ending.result (sym c.of.ensures ∙ search rules)
-          (w.demo-ending.ensures.performs _) (made_can _ _ w.demo-ending.ensures.ends) (λ reads. keeps _) (λ seed cores same. w.demo-ending.ensures.ends)
+          (w.demo-ending.ensures.performs _) (made_can _ _ w.demo-ending.ensures.ends) (λ reads. keeps _) (gives_none _ 537919489) (λ seed cores same. w.demo-ending.ensures.ends)
           (subst (λ (ending : Ending). Tells ending old new before now) w.ending-is c.tell.ensures))
       | in-None w ↦ rw (w.input-is, w.out-is, w.machines-is, c.status.ensures, w.ending-is)
           (promised_nothing (map string_bytes c.args.words.now) _ _ _ _ (sym c.of.ensures ∙ w.in-None.is) refl refl c.requires
