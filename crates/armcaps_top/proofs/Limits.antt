@@ -61,12 +61,15 @@ too_long (Some input) (Some rest) bytes limit moved long most is =
 pub grown_format : (left after : Option (List ℕ)) (before bytes : List ℕ) → Moves left after before bytes → 1048576 ≤ length before → format_of bytes ≡ format_of before
 grown_format left after before bytes moved most = ap (λ (i : List ℕ). format_of i) moved.grown ∙ same_format before moved.part most
 
--- a source gave in two calls no more than one byte past the limit of a format
-pub gave_at_most : (left between after : Option (List ℕ)) (first bytes : List ℕ) (limit : ℕ) → Moves left between [] first → Moves between after first bytes
-    → (format_of first).input ≡ limit → length bytes ≤ limit + 1 → GivesAtMost left after 537919489
-gave_at_most left between after first bytes limit before more is within =
-    let moved : Moves left after [] bytes = Moves-trans left between after [] first bytes before more in record {
+-- a source gave in two calls no more than one byte past the limit of the format of what came first
+pub gave_at_most : (left between after : Option (List ℕ)) (none first slice bytes : List ℕ) (format : Format) → none ≡ []
+    → Moves left between none first → Moves between after first bytes → format ≡ format_of slice → slice ≡ first
+    → length bytes ≤ format.input + 1 → GivesAtMost left after 537919489
+gave_at_most left between after none first slice bytes format empty before more is same within =
+    let moved : Moves left after none bytes = Moves-trans left between after none first bytes before more in
+    let grown : bytes ≡ moved.part = moved.grown ∙ ap (λ (old : List ℕ). old ++ moved.part) empty in
+    let limit : format.input ≡ (format_of first).input = ap (λ (f : Format). f.input) (is ∙ ap (λ (b : List ℕ). format_of b) same) in record {
       part = moved.part;
-      count = omega (arith, sym (ap length moved.grown), within, is, (limits first).most);
+      count = omega (arith, ap length grown, within, limit, (limits first).most);
       given = moved.given;
     }

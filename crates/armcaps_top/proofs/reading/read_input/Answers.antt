@@ -64,24 +64,15 @@ returns-else-ended_further-clause-unread g c =
 
 pub returns-in_err-ended_further-clause-at_most : goal.returns-in_err-ended_further-clause-at_most
 returns-in_err-ended_further-clause-at_most g c =
-    let bytes : List ℕ = c.read_past.new.bytes.items in
-    let is : c.of-limit.result.input ≡ (format_of bytes).input =
-    ap (λ (f : Format). f.input) (c.of-limit.ensures ∙ ap (λ (b : List ℕ). format_of b) c.deref.ensures.value) in
-    let first = subst (λ (none : List ℕ). Moves (g.S.Source.left c.args.source.now) (g.S.Source.left c.read_past.new.source) none bytes) c.new-bytes.ensures.items c.read_past.ensures.moved in
-    gave_at_most _ _ _ bytes c.read_past-2.new.bytes.items c.of-limit.result.input first c.read_past-2.ensures.moved (sym is) c.read_past-2.ensures.bounded
+    gave_at_most _ _ _ _ _ _ _ c.of-limit.result c.new-bytes.ensures.items c.read_past.ensures.moved c.read_past-2.ensures.moved
+    c.of-limit.ensures c.deref.ensures.value c.read_past-2.ensures.bounded
 
 pub returns-then-ended_further-clause-at_most : goal.returns-then-ended_further-clause-at_most
 returns-then-ended_further-clause-at_most g c =
-    let bytes : List ℕ = c.read_past.new.bytes.items in
-    let is : c.of-limit.result.input ≡ (format_of bytes).input =
-    ap (λ (f : Format). f.input) (c.of-limit.ensures ∙ ap (λ (b : List ℕ). format_of b) c.deref.ensures.value) in
-    let first = subst (λ (none : List ℕ). Moves (g.S.Source.left c.args.source.now) (g.S.Source.left c.read_past.new.source) none bytes) c.new-bytes.ensures.items c.read_past.ensures.moved in
-    gave_at_most _ _ _ bytes c.read_past-2.new.bytes.items c.of-limit.result.input first c.read_past-2.ensures.moved (sym is) c.read_past-2.ensures.bounded
+    gave_at_most _ _ _ _ _ _ _ c.of-limit.result c.new-bytes.ensures.items c.read_past.ensures.moved c.read_past-2.ensures.moved
+    c.of-limit.ensures c.deref.ensures.value c.read_past-2.ensures.bounded
 
 pub returns-else-ended_further-clause-at_most : goal.returns-else-ended_further-clause-at_most
 returns-else-ended_further-clause-at_most g c =
-    let bytes : List ℕ = c.read_past.new.bytes.items in
-    let is : c.of-limit.result.input ≡ (format_of bytes).input =
-    ap (λ (f : Format). f.input) (c.of-limit.ensures ∙ ap (λ (b : List ℕ). format_of b) c.deref.ensures.value) in
-    let first = subst (λ (none : List ℕ). Moves (g.S.Source.left c.args.source.now) (g.S.Source.left c.read_past.new.source) none bytes) c.new-bytes.ensures.items c.read_past.ensures.moved in
-    gave_at_most _ _ _ bytes c.read_past-2.new.bytes.items c.of-limit.result.input first c.read_past-2.ensures.moved (sym is) c.read_past-2.ensures.bounded
+    gave_at_most _ _ _ _ _ _ _ c.of-limit.result c.new-bytes.ensures.items c.read_past.ensures.moved c.read_past-2.ensures.moved
+    c.of-limit.ensures c.deref.ensures.value c.read_past-2.ensures.bounded
