@@ -89,8 +89,7 @@ fn image(
     Ok(image)
 }
 
-// What checking and writing give: the image that the sink got, how many entries are selected, and how many words their
-// sites have.
+// What checking and writing give: the image that the sink got.
 fn patched(
     rt: &impl Abort,
     alloc: Global,
@@ -98,7 +97,7 @@ fn patched(
     count: u32,
     names: &Names,
     boot: &Boot,
-) -> Result<Result<(Vec<u8>, u32, u32), PatchRefused>, Fail> {
+) -> Result<Result<Vec<u8>, PatchRefused>, Fail> {
     let layout = Layout { table: 0, count };
     assert!(rt;
         image.len() <= 1 << 29 && 12 * u64::from(count) <= image.len() as u64 && boot.is_final()
@@ -107,8 +106,7 @@ fn patched(
         Ok(plan) => {
             let mut sink = MemSink::new(alloc, image.len(), 4096, Vec::new(alloc))?;
             assert_eq!(rt; plan.write(image, &mut sink), Ok(()));
-            let bytes = Vec::from_slice(alloc, sink.bytes())?;
-            Ok(Ok((bytes, plan.count_entries(), plan.count_words())))
+            Ok(Ok(Vec::from_slice(alloc, sink.bytes())?))
         }
         Err(refused) => Ok(Err(refused)),
     }
@@ -184,8 +182,7 @@ type Words = &'static [(usize, u32)];
 
 const CALL: &'static [[u8; 12]] = &[[0x00, 0x01, 0, 0, 0xfc, 0x1f, 0, 0, 1, 0x80, 4, 0]];
 
-// The callback at 0x2000 and the conduit, the table, the words of the image, and what becomes of them; then how many entries
-// are selected, and how many words their sites have.
+// The callback at 0x2000 and the conduit, the table, the words of the image, and what becomes of them.
 #[test]
 fn images_are_patched(rt: HostRuntime) -> Result<(), Fail> {
     let none = Conduit::None;
@@ -195,8 +192,6 @@ fn images_are_patched(rt: HostRuntime) -> Result<(), Fail> {
         &'static [[u8; 12]],
         Words,
         Words,
-        u32,
-        u32,
     ); 11] = [
         (
             None,
@@ -204,8 +199,6 @@ fn images_are_patched(rt: HostRuntime) -> Result<(), Fail> {
             &[[0x00, 0x01, 0, 0, 0xfc, 0x1f, 0, 0, 1, 0, 8, 8]],
             &[(0x2000, 0x9400_0400), (0x2004, 0x1400_0001)],
             &[(0x100, 0x9400_0bc0), (0x104, 0x1400_0001)],
-            1,
-            2,
         ),
         (
             None,
@@ -213,8 +206,6 @@ fn images_are_patched(rt: HostRuntime) -> Result<(), Fail> {
             &[[0x00, 0x01, 0, 0, 0x0c, 0x20, 0, 0, 1, 0, 4, 4]],
             &[(0x2010, 0xf000_0000)],
             &[(0x100, 0xb000_0020)],
-            1,
-            1,
         ),
         (
             Some(CallbackKind::FinalCtr),
@@ -227,8 +218,6 @@ fn images_are_patched(rt: HostRuntime) -> Result<(), Fail> {
                 (0x108, 0xf2c0_0003),
                 (0x10c, 0xf2e0_0003),
             ],
-            1,
-            4,
         ),
         (
             None,
@@ -239,8 +228,6 @@ fn images_are_patched(rt: HostRuntime) -> Result<(), Fail> {
             ],
             &[(0x2000, NOP), (0x2004, NOP), (0x2008, 0xd400_0003)],
             &[(0x100, NOP), (0x104, 0xd400_0003)],
-            2,
-            3,
         ),
         (
             None,
@@ -251,8 +238,6 @@ fn images_are_patched(rt: HostRuntime) -> Result<(), Fail> {
             ],
             &[(0x2000, NOP), (0x2004, NOP)],
             &[(0x100, NOP), (0x104, NOP)],
-            1,
-            2,
         ),
         (
             Some(CallbackKind::Nops),
@@ -260,8 +245,6 @@ fn images_are_patched(rt: HostRuntime) -> Result<(), Fail> {
             CALL,
             &[(0x100, 0x1234_5678)],
             &[(0x100, NOP)],
-            1,
-            1,
         ),
         (
             Some(CallbackKind::Conduit),
@@ -269,8 +252,6 @@ fn images_are_patched(rt: HostRuntime) -> Result<(), Fail> {
             CALL,
             &[(0x100, 0x1234_5678)],
             &[(0x100, 0xd400_0002)],
-            1,
-            1,
         ),
         (
             Some(CallbackKind::Conduit),
@@ -278,8 +259,6 @@ fn images_are_patched(rt: HostRuntime) -> Result<(), Fail> {
             CALL,
             &[(0x100, 0x1234_5678)],
             &[(0x100, 0xd400_0003)],
-            1,
-            1,
         ),
         (
             Some(CallbackKind::Keep),
@@ -287,8 +266,6 @@ fn images_are_patched(rt: HostRuntime) -> Result<(), Fail> {
             CALL,
             &[(0x100, 0x1234_5678)],
             &[],
-            1,
-            1,
         ),
         (
             None,
@@ -296,8 +273,6 @@ fn images_are_patched(rt: HostRuntime) -> Result<(), Fail> {
             &[[0xfc, 0x0f, 0, 0, 0xfc, 0x17, 0, 0, 1, 0, 8, 8]],
             &[(0x1800, NOP), (0x1804, 0x9400_003f)],
             &[(0xffc, NOP), (0x1000, 0x9400_0240)],
-            1,
-            2,
         ),
         (
             None,
@@ -305,12 +280,10 @@ fn images_are_patched(rt: HostRuntime) -> Result<(), Fail> {
             &[[0x00, 0x01, 0, 0, 0xfc, 0x1f, 0, 0, 1, 0, 0, 0]],
             &[],
             &[],
-            1,
-            0,
         ),
     ];
     let boot = machine(&rt, rt.alloc(), 0x8444_8004)?;
-    for (callback, conduit, table, words, becomes, entries, in_sites) in rows {
+    for (callback, conduit, table, words, becomes) in rows {
         let names = names(rt.alloc(), callback, conduit)?;
         let original = image(&rt, rt.alloc(), 12288, table, words)?;
         let mut expected = Vec::from_slice(rt.alloc(), &original)?;
@@ -324,7 +297,7 @@ fn images_are_patched(rt: HostRuntime) -> Result<(), Fail> {
         );
         assert_eq!(&rt;
             patched(&rt, rt.alloc(), &original, count, &names, &boot)?,
-            Ok((expected, entries, in_sites))
+            Ok(expected)
         );
     }
     Ok(())
@@ -474,7 +447,8 @@ impl Sink for Pieces {
     }
 }
 
-// Two thousand sites of 63 words, each a word after the one before, with the same replacement.
+// Two thousand sites of 63 words, each a word after the one before, with the same replacement, and an entry that is not
+// selected.
 #[test]
 fn sites_overlap(rt: HostRuntime) -> Result<(), Fail> {
     let boot = machine(&rt, rt.alloc(), 0)?;
@@ -486,6 +460,7 @@ fn sites_overlap(rt: HostRuntime) -> Result<(), Fail> {
         put(&rt, &mut original, place + 4, 0x1_0000 - 12 * index - 4);
         put(&rt, &mut original, place + 8, 0xfcfc_0001);
     }
+    put(&rt, &mut original, 24_008, 0x0404_0002);
     for index in 0..63 {
         put(&rt, &mut original, 0x1_0000 + 4 * index, 0x1111_1111);
     }
@@ -494,12 +469,12 @@ fn sites_overlap(rt: HostRuntime) -> Result<(), Fail> {
         put(&rt, &mut expected, 0x8000 + 4 * index, 0x1111_1111);
     }
     assert_eq!(&rt;
-        laid_over(&rt, rt.alloc(), &original, 2000, &names, &boot)?,
+        laid_over(&rt, rt.alloc(), &original, 2001, &names, &boot)?,
         expected
     );
     assert_eq!(&rt;
-        patched(&rt, rt.alloc(), &original, 2000, &names, &boot)?,
-        Ok((expected, 2000, 126_000))
+        patched(&rt, rt.alloc(), &original, 2001, &names, &boot)?,
+        Ok(expected)
     );
     let mut pieces = Pieces {
         taken: 0,
@@ -507,12 +482,14 @@ fn sites_overlap(rt: HostRuntime) -> Result<(), Fail> {
     };
     let layout = Layout {
         table: 0,
-        count: 2000,
+        count: 2001,
     };
     assert!(&rt; original.len() == 131_072 && boot.is_final());
     let Ok(plan) = Plan::check(rt.alloc(), &original, layout, &names, &boot) else {
         return Err(Fail::from("no plan"));
     };
+    assert_eq!(&rt; plan.count_entries(), 2000);
+    assert_eq!(&rt; plan.count_words(), 126_000);
     assert_eq!(&rt; plan.write(&original, &mut pieces), Ok(()));
     assert_eq!(&rt; pieces.taken, 131_072);
     Ok(())
