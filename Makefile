@@ -2,6 +2,7 @@
 #
 #   make             proves the program and builds it: some minutes and up to 4 GB the first time, seconds after that
 #   make try         runs it on an example within some twenty seconds, before any proof; COMMAND and TEXT name another
+#   make test        all that can be seen without a proof, in some three minutes: tests, examples, tools and pages
 #   make check       the gate, and the checks of pages and tools after it
 #   make install     copies to DESTDIR and PREFIX; make uninstall removes what it copied
 PREFIX ?= /usr/local
@@ -34,6 +35,14 @@ TEXT := examples/late-core.txt
 try:
 	cd crates/armcaps && rt try -- $(COMMAND) < $(abspath $(TEXT))
 
+UNPROVED := build/unproved/armcaps
+
+test:
+	@mkdir -p $(dir $(UNPROVED))
+	tools/unproved tests --build $(UNPROVED)
+	ARMCAPS=$(abspath $(UNPROVED)) tools/check
+	@echo "make test: all passed; nothing was proved: make check proves"
+
 check:
 	.ci/run
 
@@ -64,4 +73,4 @@ uninstall:
 clean:
 	rm -rf build crates/*/out
 
-.PHONY: all try check install uninstall clean
+.PHONY: all try test check install uninstall clean
