@@ -10,22 +10,24 @@ use Rattle.armcaps_tables.specs.Overriding.{FieldOverrides}
 use Rattle.armcaps_boot.specs.declared.cause.Cause.{Cause}
 use Rattle.armcaps_boot.specs.declared.core_state.CoreState.{CoreState}
 use Rattle.armcaps_boot.specs.declared.core_state.CoreState.TheVariants.{Parked as IsParked, Panicked as HasPanicked}
-use Rattle.armcaps_boot.specs.declared.event.Event.{Event}
-use Rattle.armcaps_boot.specs.declared.event.Event.TheVariants.{Finalise}
+use Rattle.armcaps_board.specs.declared.event.Event.{Event}
+use Rattle.armcaps_board.specs.declared.event.Event.TheVariants.{Finalise}
 use Rattle.armcaps_boot.specs.declared.halt.Halt.{Halt}
 use Rattle.armcaps_boot.specs.declared.past.Past.{Past}
 use Rattle.armcaps_boot.specs.declared.reply.Reply.{Reply}
-use Rattle.armcaps_boot.specs.Admission.{Board, came_early, early_cause_of, early_of, halt_at, halt_of, has_come, held_back, late_cause_of, was_verified}
+use Rattle.armcaps_board.specs.Board.{Board}
+use Rattle.armcaps_boot.specs.Admission.{came_early, early_cause_of, early_of, halt_at, halt_of, has_come, held_back, late_cause_of, was_verified}
 use Rattle.armcaps_boot.specs.After.{IsAfter, past_from, reply_from, reply_of, state_from, state_of, states_after}
 use Rattle.armcaps_boot.specs.Answers.{Answer, cause_at_check, judged, live_answer, numbered}
 use Rattle.armcaps_boot.specs.Causes.{early_cause, late_cause, stops_machine}
 use Rattle.armcaps_boot.specs.Changes.{world_after}
 use Rattle.armcaps_boot.specs.Choosing.{chosen}
 use Rattle.armcaps_boot.specs.Facts.{Facts}
-use Rattle.armcaps_boot.specs.Order.{in_order}
+use Rattle.armcaps_board.specs.Order.{in_order}
 use Rattle.armcaps_boot.specs.States.{is_early, past_of}
-use Rattle.armcaps_boot.specs.Steps.{is_final, is_finalise, is_step_of, last_step}
-use Rattle.armcaps_boot.specs.World.{World, boot_of, core_at, early_cores, state_at}
+use Rattle.armcaps_board.specs.Steps.{is_final, is_finalise, is_step_of, last_step}
+use Rattle.armcaps_board.specs.Board.{core_at}
+use Rattle.armcaps_boot.specs.World.{World, boot_of, early_cores, state_at}
 use Rattle.armcaps_boot.proofs.Histories.{last-other, early-same, come-same, store_is_step}
 use Rattle.armcaps_boot.proofs.Holding.{IsCase, case_of, held_from, held_is, held-other, other_number, past_by, shown_early, shown_late, shown_never, never_true, state_of-boot, state_of-other}
 use Rattle.armcaps_boot.proofs.Moves.{moved}

@@ -3,21 +3,22 @@ use Rattle.std.proofs.Common.{◌≡◌, ◌<◌, ℕ, Bool, true, false, List, 
 use Rattle.std.specs.Prelude.{◌==◌}
 use Rattle.armcaps_boot.specs.declared.cause.Cause.{Cause}
 use Rattle.armcaps_boot.specs.declared.core_state.CoreState.{CoreState}
-use Rattle.armcaps_boot.specs.declared.event.Event.{Event}
-use Rattle.armcaps_boot.specs.declared.event.Event.TheVariants.{Check, Local, Store, Offline, Finalise}
+use Rattle.armcaps_board.specs.declared.event.Event.{Event}
+use Rattle.armcaps_board.specs.declared.event.Event.TheVariants.{Check, Local, Store, Offline, Finalise}
 use Rattle.armcaps_boot.specs.declared.halt.Halt.{Halt}
 use Rattle.armcaps_boot.specs.declared.past.Past.{Past}
 use Rattle.armcaps_boot.specs.declared.reply.Reply.{Reply}
 use Rattle.armcaps_boot.specs.declared.reply.Reply.TheVariants.{Done}
-use Rattle.armcaps_boot.specs.Admission.{Board, halt_of, held_back}
+use Rattle.armcaps_board.specs.Board.{Board}
+use Rattle.armcaps_boot.specs.Admission.{halt_of, held_back}
 use Rattle.armcaps_boot.specs.After.{IsAfter, past_from, reply_of, state_from, state_of}
 use Rattle.armcaps_boot.specs.Answers.{answer_of, finalise_answer, first_in_flight, live_answer, unless_halted}
 use Rattle.armcaps_boot.specs.Causes.{stops_machine}
 use Rattle.armcaps_boot.specs.Changes.{world_after}
 use Rattle.armcaps_boot.specs.Facts.{Facts}
-use Rattle.armcaps_boot.specs.Order.{in_order, is_begun_last, is_checked_last, is_fresh_last, is_next, is_up_last, is_updated_last}
+use Rattle.armcaps_board.specs.Order.{in_order, is_begun_last, is_checked_last, is_fresh_last, is_next, is_up_last, is_updated_last}
 use Rattle.armcaps_boot.specs.States.{is_in_flight}
-use Rattle.armcaps_boot.specs.Steps.{last_step}
+use Rattle.armcaps_board.specs.Steps.{last_step}
 use Rattle.armcaps_boot.specs.World.{World, state_at}
 use Rattle.armcaps_boot.proofs.Answering.{IsAnswered, halt_next, length_after, states_stay}
 use Rattle.armcaps_boot.proofs.Histories.{turn_of, settled}

@@ -19,7 +19,8 @@ use Rattle.armcaps_boot.specs.Facts.{Facts, noted_cores}
 use Rattle.armcaps_boot.specs.Numbers.{first_of, is_in, numbers}
 use Rattle.armcaps_boot.specs.Scopes.{conflict_with, enabled_by, held_at_check, lack_of}
 use Rattle.armcaps_boot.specs.States.{is_early, is_updated}
-use Rattle.armcaps_boot.specs.World.{World, core_at, state_at, boot_of, early_cores}
+use Rattle.armcaps_board.specs.Board.{core_at}
+use Rattle.armcaps_boot.specs.World.{World, state_at, boot_of, early_cores}
 use Rattle.armcaps_caps.proofs.Shared.{system_has_capability-over}
 use Rattle.armcaps_boot.proofs.CacheType.{early_cache_type, late_cache_type, is_not_boot_42}
 use Rattle.armcaps_boot.proofs.ChosenCores.{chosen-same}

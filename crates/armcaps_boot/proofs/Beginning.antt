@@ -18,7 +18,8 @@ use Rattle.armcaps_boot.specs.Facts.{Facts, IsStateOf, IsGathering, StateFits}
 use Rattle.armcaps_boot.specs.First.{first_states, first_world}
 use Rattle.armcaps_boot.specs.Numbers.{numbers}
 use Rattle.armcaps_boot.specs.States.{is_admitted, is_early}
-use Rattle.armcaps_boot.specs.World.{World, core_at, state_at, early_cores}
+use Rattle.armcaps_board.specs.Board.{core_at}
+use Rattle.armcaps_boot.specs.World.{World, state_at, early_cores}
 use Rattle.armcaps_boot.proofs.ChosenCores.{chosen-added, Added}
 use Rattle.armcaps_boot.proofs.CoreSteps.{shows}
 use Rattle.armcaps_boot.proofs.FirstNumbers.{first_of-none, numbers-same}

@@ -17,7 +17,8 @@ use Rattle.armcaps_boot.specs.Choosing.{chosen}
 use Rattle.armcaps_boot.specs.Facts.{Facts, noted_cores}
 use Rattle.armcaps_boot.specs.Numbers.{first_of, is_in}
 use Rattle.armcaps_boot.specs.States.{is_admitted, is_early, is_updated}
-use Rattle.armcaps_boot.specs.World.{World, core_at, state_at, boot_of, admitted_cores, early_cores}
+use Rattle.armcaps_board.specs.Board.{core_at}
+use Rattle.armcaps_boot.specs.World.{World, state_at, boot_of, admitted_cores, early_cores}
 use Rattle.armcaps_boot.proofs.ChosenCores.{chosen-among}
 use Rattle.armcaps_boot.proofs.Finalising.{all_early}
 use Rattle.armcaps_boot.proofs.FirstNumbers.{is_in-numbers, first_of-fails}

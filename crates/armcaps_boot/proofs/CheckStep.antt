@@ -3,17 +3,18 @@ use Rattle.std.proofs.Common.{◌≡◌, ℕ, Bool, true, false, List, ◌∷◌
 use Rattle.std.specs.Prelude.{is_some}
 use Rattle.armcaps_boot.specs.declared.cause.Cause.{Cause}
 use Rattle.armcaps_boot.specs.declared.core_state.CoreState.TheVariants.{Checked, Parked as IsParked, Panicked as HasPanicked}
-use Rattle.armcaps_boot.specs.declared.event.Event.{Event}
-use Rattle.armcaps_boot.specs.declared.event.Event.TheVariants.{Check, Local, Store, Offline, Finalise}
+use Rattle.armcaps_board.specs.declared.event.Event.{Event}
+use Rattle.armcaps_board.specs.declared.event.Event.TheVariants.{Check, Local, Store, Offline, Finalise}
 use Rattle.armcaps_boot.specs.declared.past.Past.{Past}
 use Rattle.armcaps_boot.specs.declared.reply.Reply.TheVariants.{Done, Parked, Panicked, Skipped}
-use Rattle.armcaps_boot.specs.Admission.{Board, came_early, early_cause_of, halt_for, held_back, late_cause_of, was_verified}
+use Rattle.armcaps_board.specs.Board.{Board}
+use Rattle.armcaps_boot.specs.Admission.{came_early, early_cause_of, halt_for, held_back, late_cause_of, was_verified}
 use Rattle.armcaps_boot.specs.After.{past_from, reply_from, reply_of, state_from}
 use Rattle.armcaps_boot.specs.Answers.{cause_at_check, check_answer, judged, live_answer}
 use Rattle.armcaps_boot.specs.Causes.{stops_machine}
-use Rattle.armcaps_boot.specs.Order.{is_fresh_last}
+use Rattle.armcaps_board.specs.Order.{is_fresh_last}
 use Rattle.armcaps_boot.specs.States.{past_of}
-use Rattle.armcaps_boot.specs.Steps.{last_step}
+use Rattle.armcaps_board.specs.Steps.{last_step}
 use Rattle.armcaps_boot.specs.World.{World, state_at}
 use Rattle.armcaps_boot.proofs.Answering.{IsTurnIn, IsAnswered, IsHeldIn, after_moved, after_skipped, early_is, held_in, judged_reply, numbered_in, parked_state, panicked_state, past-same, past_in, running_in, shows, stepped_if_held}
 use Rattle.armcaps_boot.proofs.Histories.{early-same, come-same, verified-same}

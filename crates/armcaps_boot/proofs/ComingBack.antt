@@ -9,8 +9,8 @@ use Rattle.armcaps_sanit.proofs.SystemWords.{is_system_again}
 use Rattle.armcaps_caps.specs.Capabilities.{is_local_scope}
 use Rattle.armcaps_boot.specs.declared.core_state.CoreState.{CoreState}
 use Rattle.armcaps_boot.specs.declared.core_state.CoreState.TheVariants.{Absent, Checked, Updated, Admitted, Offline as Gone, Parked as IsParked, Panicked as HasPanicked}
-use Rattle.armcaps_boot.specs.declared.event.Event.{Event}
-use Rattle.armcaps_boot.specs.declared.event.Event.TheVariants.{Check, Local, Store, Offline, Finalise}
+use Rattle.armcaps_board.specs.declared.event.Event.{Event}
+use Rattle.armcaps_board.specs.declared.event.Event.TheVariants.{Check, Local, Store, Offline, Finalise}
 use Rattle.armcaps_boot.specs.declared.reply.Reply.TheVariants.{Done}
 use Rattle.armcaps_boot.specs.Answers.{Answer, answer_of, live_answer, numbered, check_answer, local_answer, store_answer, cause_at_local}
 use Rattle.armcaps_boot.specs.Causes.{has_capability, has_length, late_cause}
@@ -19,7 +19,8 @@ use Rattle.armcaps_boot.specs.Facts.{Facts, noted_cores}
 use Rattle.armcaps_boot.specs.Numbers.{is_in}
 use Rattle.armcaps_boot.specs.Returning.{comes_back, is_gone, is_checked, KeepsSystem}
 use Rattle.armcaps_boot.specs.States.{is_admitted, is_early, is_updated, has_passed}
-use Rattle.armcaps_boot.specs.World.{World, boot_of, core_at, state_at, early_cores}
+use Rattle.armcaps_board.specs.Board.{core_at}
+use Rattle.armcaps_boot.specs.World.{World, boot_of, state_at, early_cores}
 use Rattle.armcaps_boot.proofs.ChosenCores.{Among, chosen-among, any-among, all-among}
 use Rattle.armcaps_boot.proofs.CoreSteps.{shows}
 use Rattle.armcaps_boot.proofs.Finalising.{admitted_within, none_late}

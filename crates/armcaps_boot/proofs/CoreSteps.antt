@@ -18,7 +18,8 @@ use Rattle.armcaps_boot.specs.Choosing.{chosen}
 use Rattle.armcaps_boot.specs.Facts.{Facts, IsStateOf, IsHalt, IsGathering, IsParkedFor, noted_cores}
 use Rattle.armcaps_boot.specs.Numbers.{numbers}
 use Rattle.armcaps_boot.specs.States.{is_admitted, is_early, is_late, is_updated, has_passed, is_early_past, is_late_past, is_admitted_past, past_of, past_admitted}
-use Rattle.armcaps_boot.specs.World.{World, core_at, state_at, boot_of, admitted_cores, early_cores}
+use Rattle.armcaps_board.specs.Board.{core_at}
+use Rattle.armcaps_boot.specs.World.{World, state_at, boot_of, admitted_cores, early_cores}
 use Rattle.armcaps_boot.proofs.ChosenCores.{chosen-same, chosen-added, Added}
 use Rattle.armcaps_boot.proofs.Gathered.{noted-added, kept-added, system-added}
 use Rattle.armcaps_boot.proofs.Moves.{moved, facts_moved, test-same, state-other, state-here}

@@ -15,7 +15,8 @@ use Rattle.armcaps_boot.specs.Causes.{capability_enabled, has_length, late_cause
 use Rattle.armcaps_boot.specs.Changes.{final_world}
 use Rattle.armcaps_boot.specs.Facts.{Facts, IsParkedFor, IsDecided}
 use Rattle.armcaps_boot.specs.States.{is_admitted, is_early, is_late, is_updated, is_in_flight, is_admitted_past, is_early_past, is_late_past, past_of}
-use Rattle.armcaps_boot.specs.World.{World, core_at, state_at, boot_of, admitted_cores, early_cores}
+use Rattle.armcaps_board.specs.Board.{core_at}
+use Rattle.armcaps_boot.specs.World.{World, state_at, boot_of, admitted_cores, early_cores}
 use Rattle.armcaps_boot.proofs.ChosenCores.{chosen-same, chosen-among}
 use Rattle.armcaps_boot.proofs.EarlyCores.{early_core_has_no_late_cause}
 use Rattle.armcaps_boot.proofs.FirstNumbers.{first_of-fails}

@@ -4,11 +4,11 @@ use Rattle.std.specs.Prelude.{◌==◌, nat_lt}
 use Rattle.std.specs.List.{list_any, range_with_len}
 use Rattle.std.proofs.lemmas.Bool.{cases_lt}
 use Rattle.std.proofs.lemmas.Bool.Decides.{Decides-ltb, Decides-eqb, not_from_Decides}
-use Rattle.armcaps_boot.specs.declared.event.Event.{Event}
-use Rattle.armcaps_boot.specs.declared.event.Event.TheVariants.{Check, Local, Store, Offline, Finalise}
+use Rattle.armcaps_board.specs.declared.event.Event.{Event}
+use Rattle.armcaps_board.specs.declared.event.Event.TheVariants.{Check, Local, Store, Offline, Finalise}
 use Rattle.armcaps_boot.specs.Admission.{came_early, has_come, was_verified}
-use Rattle.armcaps_boot.specs.Order.{in_order, is_next, is_some_in_flight, is_begun_last, is_turn_of, is_up_last, is_updated_last}
-use Rattle.armcaps_boot.specs.Steps.{is_final, is_finalise, is_local_of, is_step_of, is_store_of, last_step}
+use Rattle.armcaps_board.specs.Order.{in_order, is_next, is_some_in_flight, is_begun_last, is_turn_of, is_up_last, is_updated_last}
+use Rattle.armcaps_board.specs.Steps.{is_final, is_finalise, is_local_of, is_step_of, is_store_of, last_step}
 
 -- went offline
 abbrev pub is_gone_last : Option Event → Bool

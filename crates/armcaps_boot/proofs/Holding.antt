@@ -7,17 +7,18 @@ use Rattle.armcaps_tables.specs.Core.{Core}
 use Rattle.armcaps_boot.specs.declared.cause.Cause.{Cause}
 use Rattle.armcaps_boot.specs.declared.core_state.CoreState.{CoreState}
 use Rattle.armcaps_boot.specs.declared.core_state.CoreState.TheVariants.{Admitted}
-use Rattle.armcaps_boot.specs.declared.event.Event.{Event}
-use Rattle.armcaps_boot.specs.declared.event.Event.TheVariants.{Check, Local, Store, Offline, Finalise}
+use Rattle.armcaps_board.specs.declared.event.Event.{Event}
+use Rattle.armcaps_board.specs.declared.event.Event.TheVariants.{Check, Local, Store, Offline, Finalise}
 use Rattle.armcaps_boot.specs.declared.past.Past.{Past}
 use Rattle.armcaps_boot.specs.declared.past.Past.TheVariants.{Never, Early, Late}
-use Rattle.armcaps_boot.specs.Admission.{Board, came_early, early_cause_of, early_of, has_come, held_back, is_among_admitted, is_among_early, is_among_late, late_cause_of, was_verified}
+use Rattle.armcaps_board.specs.Board.{Board}
+use Rattle.armcaps_boot.specs.Admission.{came_early, early_cause_of, early_of, has_come, held_back, is_among_admitted, is_among_early, is_among_late, late_cause_of, was_verified}
 use Rattle.armcaps_boot.specs.After.{past_from, state_from, state_of}
 use Rattle.armcaps_boot.specs.Causes.{late_cause, stops_machine}
-use Rattle.armcaps_boot.specs.Order.{in_order, is_up_last}
+use Rattle.armcaps_board.specs.Order.{in_order, is_up_last}
 use Rattle.armcaps_boot.specs.States.{is_admitted, is_admitted_past, is_early, is_early_past, is_late, is_late_past, past_of}
-use Rattle.armcaps_boot.specs.Steps.{is_final, is_step_of, last_step}
-use Rattle.armcaps_boot.specs.World.{core_at}
+use Rattle.armcaps_board.specs.Steps.{is_final, is_step_of, last_step}
+use Rattle.armcaps_board.specs.Board.{core_at}
 use Rattle.armcaps_boot.proofs.ChosenCores.{chosen-same}
 use Rattle.armcaps_boot.proofs.Histories.{course, early-final, early_came, is_gone_last, last-other, last-own, local_is_step, verified-same, verified_final, without_step}
 

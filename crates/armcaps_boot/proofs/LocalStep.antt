@@ -3,19 +3,21 @@ use Rattle.std.proofs.Common.{◌≡◌, ℕ, Bool, true, false, cond, not, ◌&
 use Rattle.std.specs.Prelude.{◌==◌, is_some}
 use Rattle.armcaps_boot.specs.declared.cause.Cause.{Cause}
 use Rattle.armcaps_boot.specs.declared.core_state.CoreState.TheVariants.{Updated, Parked as IsParked}
-use Rattle.armcaps_boot.specs.declared.event.Event.{Event}
-use Rattle.armcaps_boot.specs.declared.event.Event.TheVariants.{Check, Local, Store, Offline, Finalise}
+use Rattle.armcaps_board.specs.declared.event.Event.{Event}
+use Rattle.armcaps_board.specs.declared.event.Event.TheVariants.{Check, Local, Store, Offline, Finalise}
 use Rattle.armcaps_boot.specs.declared.past.Past.{Past}
 use Rattle.armcaps_boot.specs.declared.reply.Reply.TheVariants.{Done, Parked, Skipped}
-use Rattle.armcaps_boot.specs.Admission.{Board, came_early, early_cause_of, has_come, held_back, late_cause_of, was_verified}
+use Rattle.armcaps_board.specs.Board.{Board}
+use Rattle.armcaps_boot.specs.Admission.{came_early, early_cause_of, has_come, held_back, late_cause_of, was_verified}
 use Rattle.armcaps_boot.specs.After.{past_from, reply_from, reply_of, state_from}
 use Rattle.armcaps_boot.specs.Answers.{cause_at_local, judged, live_answer, local_answer}
 use Rattle.armcaps_boot.specs.Causes.{late_cause, stops_machine}
 use Rattle.armcaps_boot.specs.Changes.{noted_with}
-use Rattle.armcaps_boot.specs.Order.{is_checked_last}
+use Rattle.armcaps_board.specs.Order.{is_checked_last}
 use Rattle.armcaps_boot.specs.States.{is_admitted, is_admitted_past, past_of}
-use Rattle.armcaps_boot.specs.Steps.{is_final, last_step}
-use Rattle.armcaps_boot.specs.World.{World, boot_of, core_at, early_cores, state_at}
+use Rattle.armcaps_board.specs.Steps.{is_final, last_step}
+use Rattle.armcaps_board.specs.Board.{core_at}
+use Rattle.armcaps_boot.specs.World.{World, boot_of, early_cores, state_at}
 use Rattle.armcaps_boot.proofs.Answering.{IsTurnIn, IsAnswered, IsHeldIn, after_moved, after_skipped, held_in, judged_reply, late_is, numbered_in, parked_state, past-same, past_in, running_in, shows, stepped_if_held}
 use Rattle.armcaps_boot.proofs.Histories.{early-same, come-same, last-own, or_left, or_right, verified_final}
 use Rattle.armcaps_boot.proofs.Holding.{held_from, held_is, late-final, past_by}

@@ -14,7 +14,8 @@ use Rattle.armcaps_boot.specs.Causes.{capability_enabled, hwcap_advertised, is_s
 use Rattle.armcaps_boot.specs.Facts.{Facts, IsStateOf, IsHalt, IsGathering, IsDecided, StateFits}
 use Rattle.armcaps_boot.specs.Numbers.{numbers}
 use Rattle.armcaps_boot.specs.States.{is_early}
-use Rattle.armcaps_boot.specs.World.{World, core_at, state_at, boot_of, admitted_cores, early_cores}
+use Rattle.armcaps_board.specs.Board.{core_at}
+use Rattle.armcaps_boot.specs.World.{World, state_at, boot_of, admitted_cores, early_cores}
 use Rattle.armcaps_boot.proofs.ChosenCores.{chosen-same}
 
 -- a core has another state, and with it some other parts have other values

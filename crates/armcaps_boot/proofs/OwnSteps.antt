@@ -4,11 +4,12 @@ use Rattle.std.specs.Prelude.{◌==◌, is_some}
 use Rattle.std.specs.Option.{option_or}
 use Rattle.std.proofs.lemmas.Bool.Decides.{Decides-eqb}
 use Rattle.armcaps_boot.specs.declared.cause.Cause.{Cause}
-use Rattle.armcaps_boot.specs.declared.event.Event.{Event}
-use Rattle.armcaps_boot.specs.declared.event.Event.TheVariants.{Check, Local, Store, Offline}
-use Rattle.armcaps_boot.specs.Admission.{Board, came_early, early_cause_of, held_back, late_cause_of, was_verified}
+use Rattle.armcaps_board.specs.declared.event.Event.{Event}
+use Rattle.armcaps_board.specs.declared.event.Event.TheVariants.{Check, Local, Store, Offline}
+use Rattle.armcaps_board.specs.Board.{Board}
+use Rattle.armcaps_boot.specs.Admission.{came_early, early_cause_of, held_back, late_cause_of, was_verified}
 use Rattle.armcaps_boot.specs.After.{past_from, state_from, state_of}
-use Rattle.armcaps_boot.specs.Steps.{is_step_of, last_step}
+use Rattle.armcaps_board.specs.Steps.{is_step_of, last_step}
 use Rattle.armcaps_boot.specs.World.{World}
 use Rattle.armcaps_boot.proofs.Answering.{IsTurnIn, IsOwn, held_in, parked_state, shows}
 use Rattle.armcaps_boot.proofs.Histories.{last-own, verified-same, without_step}

@@ -9,7 +9,8 @@ use Rattle.armcaps_boot.specs.Causes.{has_capability, capability_enabled}
 use Rattle.armcaps_boot.specs.Facts.{Facts}
 use Rattle.armcaps_boot.specs.Numbers.{is_in, numbers}
 use Rattle.armcaps_boot.specs.Safety.{core_has, is_enabled, is_enabled_at_first, WasAdmitted}
-use Rattle.armcaps_boot.specs.World.{World, boot_of, core_at, early_cores}
+use Rattle.armcaps_board.specs.Board.{core_at}
+use Rattle.armcaps_boot.specs.World.{World, boot_of, early_cores}
 use Rattle.armcaps_boot.proofs.CacheType.{none_in_conflict}
 use Rattle.armcaps_boot.proofs.FirstNumbers.{is_in-numbers, is_in-past}
 use Rattle.armcaps_boot.proofs.Below.{system_alone, erratum_is_local, local_alone}

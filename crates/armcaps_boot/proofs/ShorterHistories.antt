@@ -5,14 +5,15 @@ use Rattle.std.proofs.lemmas.List.FromFn.{get_or-map-range_with_len}
 use Rattle.armcaps_tables.specs.Core.{Core}
 use Rattle.armcaps_boot.specs.declared.cause.Cause.{Cause}
 use Rattle.armcaps_boot.specs.declared.core_state.CoreState.TheVariants.{Absent}
-use Rattle.armcaps_boot.specs.declared.event.Event.{Event}
-use Rattle.armcaps_boot.specs.Admission.{Board, admitted_of, came_early, early_cause_of, early_of, has_come, is_among_admitted, is_among_early, late_cause_of}
+use Rattle.armcaps_board.specs.declared.event.Event.{Event}
+use Rattle.armcaps_board.specs.Board.{Board}
+use Rattle.armcaps_boot.specs.Admission.{admitted_of, came_early, early_cause_of, early_of, has_come, is_among_admitted, is_among_early, late_cause_of}
 use Rattle.armcaps_boot.specs.After.{state_of, states_after}
 use Rattle.armcaps_boot.specs.Choosing.{chosen}
 use Rattle.armcaps_boot.specs.Findings.{admitted, early, findings_after}
-use Rattle.armcaps_boot.specs.Order.{in_order, is_next}
+use Rattle.armcaps_board.specs.Order.{in_order, is_next}
 use Rattle.armcaps_boot.specs.States.{is_admitted, is_early}
-use Rattle.armcaps_boot.specs.Steps.{is_final, is_store_of}
+use Rattle.armcaps_board.specs.Steps.{is_final, is_store_of}
 use Rattle.armcaps_boot.specs.World.{state_at}
 use Rattle.armcaps_boot.proofs.Histories.{and_right, course, early-final, early_came, or_left, or_right, verified_final}
 use Rattle.armcaps_boot.proofs.Holding.{admitted_by_state, early_by_state, late-final}

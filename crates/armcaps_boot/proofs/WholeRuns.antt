@@ -9,22 +9,24 @@ use Rattle.armcaps_tables.specs.Overriding.{FieldOverrides}
 use Rattle.armcaps_boot.specs.declared.cause.Cause.{Cause}
 use Rattle.armcaps_boot.specs.declared.core_state.CoreState.{CoreState}
 use Rattle.armcaps_boot.specs.declared.core_state.CoreState.TheVariants.{Absent, Admitted}
-use Rattle.armcaps_boot.specs.declared.event.Event.{Event}
-use Rattle.armcaps_boot.specs.declared.event.Event.TheVariants.{Check, Local, Store, Offline, Finalise}
+use Rattle.armcaps_board.specs.declared.event.Event.{Event}
+use Rattle.armcaps_board.specs.declared.event.Event.TheVariants.{Check, Local, Store, Offline, Finalise}
 use Rattle.armcaps_boot.specs.declared.halt.Halt.{Halt}
-use Rattle.armcaps_boot.specs.Admission.{Board, came_early, early_cause_of, early_of, halt_at, halt_of, has_come, held_back, is_among_admitted, is_among_early, is_among_late, late_cause_of, was_verified}
+use Rattle.armcaps_board.specs.Board.{Board}
+use Rattle.armcaps_boot.specs.Admission.{came_early, early_cause_of, early_of, halt_at, halt_of, has_come, held_back, is_among_admitted, is_among_early, is_among_late, late_cause_of, was_verified}
 use Rattle.armcaps_boot.specs.After.{IsAfter, reply_of, state_of, states_after}
 use Rattle.armcaps_boot.specs.Answers.{Answer}
 use Rattle.armcaps_boot.specs.Causes.{capability_enabled, has_capability}
 use Rattle.armcaps_boot.specs.Changes.{world_after}
 use Rattle.armcaps_boot.specs.Facts.{Facts}
 use Rattle.armcaps_boot.specs.First.{first_states, first_world}
-use Rattle.armcaps_boot.specs.Order.{in_order, is_begun_last, is_complete, is_next, is_some_in_flight, is_up_last, is_updated_last}
+use Rattle.armcaps_board.specs.Order.{in_order, is_begun_last, is_complete, is_next, is_some_in_flight, is_up_last, is_updated_last}
 use Rattle.armcaps_boot.specs.Outcome.{IsAdmittedOrParked, IsBoard, IsSafe, has_capability_of, is_enabled_of}
 use Rattle.armcaps_boot.specs.Safety.{WasAdmitted, core_has, is_enabled}
 use Rattle.armcaps_boot.specs.States.{is_admitted, is_admitted_past}
-use Rattle.armcaps_boot.specs.Steps.{is_final, last_step}
-use Rattle.armcaps_boot.specs.World.{World, boot_of, core_at, early_cores, state_at}
+use Rattle.armcaps_board.specs.Steps.{is_final, last_step}
+use Rattle.armcaps_board.specs.Board.{core_at}
+use Rattle.armcaps_boot.specs.World.{World, boot_of, early_cores, state_at}
 use Rattle.armcaps_boot.proofs.Answering.{IsHeldIn, IsTurnIn, early_cores_are, held_in, past_in, states_set}
 use Rattle.armcaps_boot.proofs.Beginning.{first_facts}
 use Rattle.armcaps_boot.proofs.Below.{erratum_is_counted, system_is_counted}

@@ -4,21 +4,15 @@ use Rattle.std.specs.Prelude.{ℕ, ◌==◌, Bool, false, not, ◌&&◌, ◌||�
 use Rattle.std.specs.List.{list_any}
 use Rattle.std.specs.Option.{option_or}
 use Rattle.armcaps_tables.specs.Core.{Core}
-use Rattle.armcaps_tables.specs.Overriding.{FieldOverrides}
 use Rattle.armcaps_boot.specs.declared.cause.Cause.{Cause}
-use Rattle.armcaps_boot.specs.declared.event.Event.{Event}
-use Rattle.armcaps_boot.specs.declared.event.Event.TheVariants.{Check}
+use Rattle.armcaps_board.specs.declared.event.Event.{Event}
+use Rattle.armcaps_board.specs.declared.event.Event.TheVariants.{Check}
 use Rattle.armcaps_boot.specs.declared.halt.Halt.{Halt}
 use Rattle.armcaps_boot.specs.Causes.{early_cause, late_cause, stops_machine}
 use Rattle.armcaps_boot.specs.Choosing.{chosen}
-use Rattle.armcaps_boot.specs.Steps.{is_final, is_local_of, is_store_of, last_step}
-use Rattle.armcaps_boot.specs.World.{core_at}
-
--- what is brought up: the cores, the number of the boot core, and the overrides
-pub record Board : Type 0 where
-  pub cores : List Core
-  pub boot : ℕ
-  pub overrides : FieldOverrides
+use Rattle.armcaps_board.specs.Board.{Board}
+use Rattle.armcaps_board.specs.Steps.{is_final, is_local_of, is_store_of, last_step}
+use Rattle.armcaps_board.specs.Board.{core_at}
 
 -- the early cause of a core of the board
 abbrev pub early_cause_of : Board → ℕ → Option Cause

@@ -8,8 +8,8 @@ use Rattle.armcaps_hwcap.specs.Words.{hwcap_word, hwcap2_word}
 use Rattle.armcaps_caps.specs.Rows.{capability_count}
 use Rattle.armcaps_boot.specs.declared.core_state.CoreState.{CoreState}
 use Rattle.armcaps_boot.specs.declared.core_state.CoreState.TheVariants.{Checked, Updated, Admitted, Offline as Gone, Parked as IsParked, Panicked as HasPanicked}
-use Rattle.armcaps_boot.specs.declared.event.Event.{Event}
-use Rattle.armcaps_boot.specs.declared.event.Event.TheVariants.{Check, Local, Store, Offline, Finalise}
+use Rattle.armcaps_board.specs.declared.event.Event.{Event}
+use Rattle.armcaps_board.specs.declared.event.Event.TheVariants.{Check, Local, Store, Offline, Finalise}
 use Rattle.armcaps_boot.specs.declared.past.Past.{Past}
 use Rattle.armcaps_boot.specs.declared.past.Past.TheVariants.{Never, Early, Late}
 use Rattle.armcaps_boot.specs.declared.reply.Reply.{Reply}
@@ -18,7 +18,8 @@ use Rattle.armcaps_boot.specs.Answers.{Answer}
 use Rattle.armcaps_boot.specs.Causes.{has_capability, capability_enabled, hwcap_advertised, sve_capability}
 use Rattle.armcaps_boot.specs.Numbers.{numbers, is_in}
 use Rattle.armcaps_boot.specs.States.{past_of}
-use Rattle.armcaps_boot.specs.World.{World, core_at, state_at, boot_of, early_cores}
+use Rattle.armcaps_board.specs.Board.{core_at}
+use Rattle.armcaps_boot.specs.World.{World, state_at, boot_of, early_cores}
 
 -- the core that a step is of, if it is of one
 abbrev pub core_of : Event → Option ℕ

@@ -16,7 +16,8 @@ use Rattle.armcaps_boot.specs.Causes.{has_capability, capability_enabled, hwcap_
 use Rattle.armcaps_boot.specs.Choosing.{chosen}
 use Rattle.armcaps_boot.specs.Numbers.{numbers}
 use Rattle.armcaps_boot.specs.States.{is_admitted, is_early, is_late, is_updated, has_passed}
-use Rattle.armcaps_boot.specs.World.{World, core_at, state_at, boot_of, admitted_cores, early_cores}
+use Rattle.armcaps_board.specs.Board.{core_at}
+use Rattle.armcaps_boot.specs.World.{World, state_at, boot_of, admitted_cores, early_cores}
 
 -- the early cores, and those whose own capabilities were noted and that haven't made their store yet
 abbrev pub noted_cores : World → List Core

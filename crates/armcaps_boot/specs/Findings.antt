@@ -3,12 +3,13 @@ use Rattle.std.specs.Prelude.{ℕ, List}
 use Rattle.armcaps_tables.specs.Core.{Core}
 use Rattle.armcaps_tables.specs.Overriding.{FieldOverrides}
 use Rattle.armcaps_boot.specs.declared.core_state.CoreState.{CoreState}
-use Rattle.armcaps_boot.specs.declared.event.Event.{Event}
+use Rattle.armcaps_board.specs.declared.event.Event.{Event}
 use Rattle.armcaps_boot.specs.After.{states_after}
-use Rattle.armcaps_boot.specs.Admission.{Board}
+use Rattle.armcaps_board.specs.Board.{Board}
 use Rattle.armcaps_boot.specs.Choosing.{chosen}
 use Rattle.armcaps_boot.specs.States.{is_admitted, is_early}
-use Rattle.armcaps_boot.specs.World.{World, core_at, state_at}
+use Rattle.armcaps_board.specs.Board.{core_at}
+use Rattle.armcaps_boot.specs.World.{World, state_at}
 
 -- the cores, the number of the boot core, the overrides, and the state to which each core came
 pub record Findings : Type 0 where

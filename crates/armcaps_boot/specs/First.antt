@@ -9,7 +9,8 @@ use Rattle.armcaps_boot.specs.declared.core_state.CoreState.{CoreState}
 use Rattle.armcaps_boot.specs.declared.core_state.CoreState.TheVariants.{Absent, Admitted}
 use Rattle.armcaps_boot.specs.Causes.{has_capability}
 use Rattle.armcaps_boot.specs.Numbers.{numbers}
-use Rattle.armcaps_boot.specs.World.{World, core_at}
+use Rattle.armcaps_board.specs.Board.{core_at}
+use Rattle.armcaps_boot.specs.World.{World}
 
 -- only the boot core is admitted
 abbrev pub first_states : ℕ → ℕ → List CoreState

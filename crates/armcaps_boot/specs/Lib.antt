@@ -12,8 +12,6 @@ pub mod Scopes
 pub mod First
 pub mod Safety
 pub mod Returning
-pub mod Steps
-pub mod Order
 pub mod Admission
 pub mod After
 pub mod Findings

@@ -5,12 +5,13 @@ use Rattle.armcaps_tables.specs.Overriding.{AllFit, override_of}
 use Rattle.armcaps_caps.specs.Capabilities.{is_erratum_class, is_system_scope}
 use Rattle.armcaps_boot.specs.declared.cause.Cause.{Cause}
 use Rattle.armcaps_boot.specs.declared.core_state.CoreState.TheVariants.{Parked}
-use Rattle.armcaps_boot.specs.declared.event.Event.{Event}
-use Rattle.armcaps_boot.specs.Admission.{Board, came_early, early_cause_of, early_of, has_come, is_among_admitted, late_cause_of}
+use Rattle.armcaps_board.specs.declared.event.Event.{Event}
+use Rattle.armcaps_board.specs.Board.{Board}
+use Rattle.armcaps_boot.specs.Admission.{came_early, early_cause_of, early_of, has_come, is_among_admitted, late_cause_of}
 use Rattle.armcaps_boot.specs.After.{state_of}
 use Rattle.armcaps_boot.specs.Causes.{capability_enabled, has_capability}
-use Rattle.armcaps_boot.specs.Steps.{last_step}
-use Rattle.armcaps_boot.specs.World.{core_at}
+use Rattle.armcaps_board.specs.Steps.{last_step}
+use Rattle.armcaps_board.specs.Board.{core_at}
 
 -- a board of which a machine can be made
 pub record IsBoard (board : Board) : Type 0 where

@@ -4,7 +4,8 @@ use Rattle.armcaps_caps.specs.Capabilities.{is_boot_scope}
 use Rattle.armcaps_caps.specs.Rows.{capability_count}
 use Rattle.armcaps_boot.specs.Causes.{has_capability, capability_enabled}
 use Rattle.armcaps_boot.specs.States.{is_admitted}
-use Rattle.armcaps_boot.specs.World.{World, boot_of, core_at, state_at, early_cores}
+use Rattle.armcaps_board.specs.Board.{core_at}
+use Rattle.armcaps_boot.specs.World.{World, boot_of, state_at, early_cores}
 
 -- a core of this number was ever admitted
 abbrev pub WasAdmitted : World → ℕ → Type 0

@@ -1,11 +1,12 @@
 -- What contracts see of a machine that is brought up.
-use Rattle.std.specs.Prelude.{ℕ, Bool, List, [], Option, slice_index_or}
+use Rattle.std.specs.Prelude.{ℕ, Bool, List, Option, slice_index_or}
 use Rattle.armcaps_tables.specs.Core.{Core}
 use Rattle.armcaps_tables.specs.Overriding.{FieldOverrides}
 use Rattle.armcaps_hwcap.specs.declared.hw_set.HwSet.{HwSet}
 use Rattle.armcaps_boot.specs.declared.core_state.CoreState.{CoreState}
 use Rattle.armcaps_boot.specs.declared.core_state.CoreState.TheVariants.{Absent}
 use Rattle.armcaps_boot.specs.declared.halt.Halt.{Halt}
+use Rattle.armcaps_board.specs.Board.{core_at}
 use Rattle.armcaps_boot.specs.Choosing.{chosen}
 use Rattle.armcaps_boot.specs.States.{is_admitted, is_early}
 
@@ -26,10 +27,6 @@ pub record World : Type 0 where
   pub ctr : ℕ
   pub kept : ℕ
   pub lengths : ℕ
-
--- a core, by its number
-abbrev pub core_at : List Core → ℕ → Core
-core_at cores number = slice_index_or cores number (record { words = []; lengths = 0 })
 
 -- a core's state, by its number
 abbrev pub state_at : List CoreState → ℕ → CoreState

@@ -11,7 +11,7 @@ ghost use Rattle.armcaps_boot.specs.First.{first_states, first_world};
 ghost use Rattle.armcaps_boot.specs.Numbers.{is_in};
 
 use crate::core_state::CoreState;
-use crate::event::Event;
+use armcaps_board::Event;
 use crate::halt::Halt;
 use crate::machine::Machine;
 use crate::refused::{BootRefused, StepRefused};

@@ -2,15 +2,16 @@
 //! law.
 
 ghost use Rattle.std.specs.Prelude.{◌≡◌, ◌<◌, ◌==◌, ◌&&◌, ◌||◌, ◌∷◌, ◌++◌, [], ℕ, true, List, length, Ok, None};
-ghost use Rattle.armcaps_boot.specs.declared.event.Event.{Event as Step};
-ghost use Rattle.armcaps_boot.specs.Admission.{Board, admitted_of, early_of, halt_of, has_come, is_among_admitted, is_among_early, is_among_late};
+ghost use Rattle.armcaps_board.specs.declared.event.Event.{Event as Step};
+ghost use Rattle.armcaps_board.specs.Board.{Board};
+ghost use Rattle.armcaps_boot.specs.Admission.{admitted_of, early_of, halt_of, has_come, is_among_admitted, is_among_early, is_among_late};
 ghost use Rattle.armcaps_boot.specs.After.{IsAfter, reply_of, state_of};
 ghost use Rattle.armcaps_boot.specs.Answers.{answer_of};
 ghost use Rattle.armcaps_boot.specs.Changes.{world_after};
 ghost use Rattle.armcaps_boot.specs.Facts.{Facts};
 ghost use Rattle.armcaps_boot.specs.Findings.{admitted, early, findings_after};
 ghost use Rattle.armcaps_boot.specs.First.{first_world};
-ghost use Rattle.armcaps_boot.specs.Order.{in_order, is_complete, is_next};
+ghost use Rattle.armcaps_board.specs.Order.{in_order, is_complete, is_next};
 ghost use Rattle.armcaps_boot.specs.Outcome.{IsBoard, IsSafe};
 ghost use Rattle.armcaps_boot.specs.States.{is_admitted, is_early, is_late};
 ghost use Rattle.armcaps_boot.specs.World.{World};

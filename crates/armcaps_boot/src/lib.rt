@@ -5,7 +5,6 @@ mod boot;
 mod cause;
 mod causes;
 mod core_state;
-mod event;
 mod gathering;
 mod halt;
 pub mod laws;
@@ -14,16 +13,14 @@ mod moving;
 mod past;
 mod refused;
 mod reply;
-mod step_line;
 #[cfg(test)]
 mod tests;
 
+pub use armcaps_board::{Event, StepLine, events_of};
 pub use boot::Boot;
 pub use cause::Cause;
 pub use core_state::CoreState;
-pub use event::Event;
 pub use halt::Halt;
 pub use past::Past;
 pub use refused::{BootRefused, StepRefused};
 pub use reply::Reply;
-pub use step_line::{StepLine, events_of};

@@ -14,7 +14,7 @@ ghost use Rattle.armcaps_boot.specs.World.{state_at};
 use crate::cause::Cause;
 use crate::causes::{early_cause, first_lack, stops_machine};
 use crate::core_state::CoreState;
-use crate::event::Event;
+use armcaps_board::Event;
 use crate::gathering::{decided, first_in_flight, with_own};
 use crate::halt::Halt;
 use crate::moving::{admitted_after, past_of};

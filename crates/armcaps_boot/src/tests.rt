@@ -251,34 +251,6 @@ fn a_core_under_an_override(rt: HostRuntime) -> Result<(), Fail> {
     Ok(())
 }
 
-// The events of lines, one of which brings a core up whole.
-#[test]
-fn events_of_lines(rt: HostRuntime) -> Result<(), Fail> {
-    let lines = [
-        StepLine::Check(2),
-        StepLine::Local(2),
-        StepLine::Online(1),
-        StepLine::Store(2),
-        StepLine::Finalise,
-        StepLine::Offline(1),
-    ];
-    let events = [
-        Event::Check(2),
-        Event::Local(2),
-        Event::Check(1),
-        Event::Local(1),
-        Event::Store(1),
-        Event::Store(2),
-        Event::Finalise,
-        Event::Offline(1),
-    ];
-    assert_eq!(rt;
-        events_of(rt.alloc(), &lines)?.as_slice(),
-        events.as_slice()
-    );
-    Ok(())
-}
-
 /// The registers of cores 0 to 2 in one register, steps with their answers, the system's word after them, and what became
 /// of core 1.
 type Order<'a> = (

@@ -13,7 +13,7 @@ use Rattle.armcaps_sanit.specs.Users.{user_word}
 use Rattle.armcaps_boot.specs.declared.core_state.CoreState.{CoreState}
 use Rattle.armcaps_boot.specs.declared.core_state.CoreState.TheVariants.{Admitted}
 use Rattle.armcaps_boot.specs.Findings.{Findings, admitted}
-use Rattle.armcaps_boot.specs.World.{core_at}
+use Rattle.armcaps_board.specs.Board.{core_at}
 use Rattle.armcaps_mrs.specs.declared.refused.UserRefused.{UserRefused}
 use Rattle.armcaps_mrs.specs.declared.refused.UserRefused.TheVariants.{NotAdmitted, Undefined}
 use Rattle.armcaps_mrs.specs.declared.read.UserRead.{UserRead}

@@ -4,7 +4,8 @@ ghost use Rattle.std.specs.Prelude.{◌≡◌, ◌<◌, ◌&&◌, length};
 ghost use Rattle.armcaps_sanit.specs.Varying.{core_varies};
 ghost use Rattle.armcaps_boot.specs.Findings.{admitted, boot_core, findings_of};
 ghost use Rattle.armcaps_boot.specs.States.{is_admitted};
-ghost use Rattle.armcaps_boot.specs.World.{boot_of, core_at, state_at};
+ghost use Rattle.armcaps_board.specs.Board.{core_at};
+ghost use Rattle.armcaps_boot.specs.World.{boot_of, state_at};
 ghost use Rattle.armcaps_report.specs.Report.{varies_among};
 
 use crate::cores::state;

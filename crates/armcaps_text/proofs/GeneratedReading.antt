@@ -3,14 +3,15 @@ use Rattle.std.proofs.Common.{◌≡◌, ℕ, zero, suc, ◌+◌, ◌-◌, ◌/�
 use Rattle.std.specs.List.{All}
 use Rattle.std.specs.Option.{option_or}
 use Rattle.std.proofs.lemmas.Bool.Decides.{nat_tests}
-use Rattle.armcaps_boot.specs.Admission.{Board, early_cause_of, halt_for, halt_of}
+use Rattle.armcaps_board.specs.Board.{Board}
+use Rattle.armcaps_boot.specs.Admission.{early_cause_of, halt_for, halt_of}
 use Rattle.armcaps_boot.specs.Causes.{early_cause}
 use Rattle.armcaps_boot.specs.Numbers.{first_of}
-use Rattle.armcaps_boot.specs.Order.{in_order, is_complete, is_next}
-use Rattle.armcaps_boot.specs.Steps.{history}
-use Rattle.armcaps_boot.specs.declared.event.Event.{Event}
+use Rattle.armcaps_board.specs.Order.{in_order, is_complete, is_next}
+use Rattle.armcaps_board.specs.Steps.{history}
+use Rattle.armcaps_board.specs.declared.event.Event.{Event}
 use Rattle.armcaps_boot.specs.declared.halt.Halt.{Halt}
-use Rattle.armcaps_boot.specs.declared.event.Event.TheVariants.{Check, Local, Store, Offline, Finalise}
+use Rattle.armcaps_board.specs.declared.event.Event.TheVariants.{Check, Local, Store, Offline, Finalise}
 use Rattle.armcaps_caps.specs.Capabilities.{core_has_capability, is_boot_scope, is_optional, is_permitted, test_of}
 use Rattle.armcaps_caps.specs.Rows.{capability_rows}
 use Rattle.armcaps_cmdline.proofs.Fitting.{command_line_fits, listed}

@@ -7,13 +7,13 @@ use Rattle.std.proofs.lemmas.List.{reverse-append}
 use Rattle.std.proofs.lemmas.List.Concat.{flat_map-cons}
 use Rattle.std.proofs.lemmas.List.Folds.{list_any_none}
 use Rattle.std.proofs.lemmas.List.Sorted.{list_any-IsPermutation, IsPermutation-reverse}
-use Rattle.armcaps_boot.specs.Order.{is_checked_last, is_updated_last, is_up_last, is_fresh_last, is_begun_last, is_turn_of, is_some_in_flight, is_next, in_order}
-use Rattle.armcaps_boot.specs.Steps.{events_of, history}
-use Rattle.armcaps_boot.specs.Steps as made
-use Rattle.armcaps_boot.specs.declared.event.Event.{Event}
-use Rattle.armcaps_boot.specs.declared.event.Event.TheVariants as event
-use Rattle.armcaps_boot.specs.declared.step_line.StepLine.{StepLine}
-use Rattle.armcaps_boot.specs.declared.step_line.StepLine.TheVariants.{Check, Local, Store, Online, Offline, Finalise}
+use Rattle.armcaps_board.specs.Order.{is_checked_last, is_updated_last, is_up_last, is_fresh_last, is_begun_last, is_turn_of, is_some_in_flight, is_next, in_order}
+use Rattle.armcaps_board.specs.Steps.{events_of, history}
+use Rattle.armcaps_board.specs.Steps as made
+use Rattle.armcaps_board.specs.declared.event.Event.{Event}
+use Rattle.armcaps_board.specs.declared.event.Event.TheVariants as event
+use Rattle.armcaps_board.specs.declared.step_line.StepLine.{StepLine}
+use Rattle.armcaps_board.specs.declared.step_line.StepLine.TheVariants.{Check, Local, Store, Online, Offline, Finalise}
 use Rattle.armcaps_text.specs.Steps.{core_of, is_step_of, last_step, is_checked, is_decided, is_begun, is_up, is_fresh, in_turn, is_in_flight, is_finalise, is_final}
 use Rattle.armcaps_text.proofs.StepLemmas.{has_step, among, eqb_same}
 

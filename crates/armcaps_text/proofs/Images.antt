@@ -16,7 +16,7 @@ use Rattle.armcaps_text.specs.declared.kind.TextKind.{TextKind}
 use Rattle.armcaps_text.specs.declared.kind.TextKind.TheVariants as kind
 use Rattle.armcaps_text.specs.declared.line.Line.{Line}
 use Rattle.armcaps_text.specs.declared.line.Line.TheVariants as line
-use Rattle.armcaps_boot.specs.declared.step_line.StepLine.TheVariants as step
+use Rattle.armcaps_board.specs.declared.step_line.StepLine.TheVariants as step
 use Rattle.armcaps_text.specs.declared.tokens.Tokens.{Tokens}
 
 -- an image of at most this many bytes, where the line gives one

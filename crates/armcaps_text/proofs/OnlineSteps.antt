@@ -3,10 +3,10 @@ use Rattle.std.proofs.Common.{◌≡◌, ℕ, zero, suc, ◌+◌, ◌<◌, ◌�
 use Rattle.std.specs.List.{range_with_len}
 use Rattle.std.proofs.lemmas.Bool.Decides.{nat_tests}
 use Rattle.std.proofs.lemmas.List.Folds.{list_any_none, list_any-append}
-use Rattle.armcaps_boot.specs.Order.{is_complete, in_order}
-use Rattle.armcaps_boot.specs.Steps.{history}
-use Rattle.armcaps_boot.specs.declared.step_line.StepLine.{StepLine}
-use Rattle.armcaps_boot.specs.declared.step_line.StepLine.TheVariants.{Online, Finalise}
+use Rattle.armcaps_board.specs.Order.{is_complete, in_order}
+use Rattle.armcaps_board.specs.Steps.{history}
+use Rattle.armcaps_board.specs.declared.step_line.StepLine.{StepLine}
+use Rattle.armcaps_board.specs.declared.step_line.StepLine.TheVariants.{Online, Finalise}
 use Rattle.armcaps_text.specs.Steps.{core_of, last_step, is_begun, is_fresh, is_in_flight, is_finalise, is_final}
 use Rattle.armcaps_text.proofs.History.{order-push, order_none, final_known, flight_none}
 use Rattle.armcaps_text.proofs.StepLemmas.{last_step-push, last_step-none}

@@ -4,9 +4,9 @@ use Rattle.std.specs.Option.{option_map_or, option_or}
 use Rattle.std.proofs.Math.ListN.{length-set}
 use Rattle.std.proofs.lemmas.Bool.Decides.{nat_tests}
 use Rattle.armcaps_alt.specs.declared.table_place.Layout.{Layout}
-use Rattle.armcaps_boot.specs.Order.{in_order, is_complete}
-use Rattle.armcaps_boot.specs.Steps.{history}
-use Rattle.armcaps_boot.specs.declared.step_line.StepLine.{StepLine}
+use Rattle.armcaps_board.specs.Order.{in_order, is_complete}
+use Rattle.armcaps_board.specs.Steps.{history}
+use Rattle.armcaps_board.specs.declared.step_line.StepLine.{StepLine}
 use Rattle.armcaps_cmdline.proofs.Fitting.{command_line_fits, listed}
 use Rattle.armcaps_cmdline.proofs.IdRegisters.{outside}
 use Rattle.armcaps_enc.specs.declared.register.SysReg.TheVariants.{CtrEl0}

@@ -8,8 +8,8 @@ use Rattle.std.proofs.lemmas.List.{reverse-append, get_or-set_same, get_or-set_o
 use Rattle.std.proofs.lemmas.List.Folds.{list_any_none}
 use Rattle.std.proofs.lemmas.List.Sorted.{list_any-IsPermutation, IsPermutation-reverse}
 use Rattle.std.proofs.lemmas.List.Sums.{sum_by-append, sum_by-cons, sum_by-set}
-use Rattle.armcaps_boot.specs.declared.step_line.StepLine.{StepLine}
-use Rattle.armcaps_boot.specs.declared.step_line.StepLine.TheVariants.{Check, Local, Store, Online, Offline, Finalise}
+use Rattle.armcaps_board.specs.declared.step_line.StepLine.{StepLine}
+use Rattle.armcaps_board.specs.declared.step_line.StepLine.TheVariants.{Check, Local, Store, Online, Offline, Finalise}
 use Rattle.armcaps_text.specs.Kept.{one_begun, AreKept}
 use Rattle.armcaps_text.specs.Steps.{core_of, is_step_of, last_step, is_begun, is_in_flight, is_finalise, is_final}
 use Rattle.armcaps_text.proofs.Pushes.{find_none, list_any-push}

@@ -16,7 +16,7 @@ use Rattle.armcaps_tables.specs.Core.{Core}
 use Rattle.armcaps_text.specs.Meaning.{section_of}
 use Rattle.armcaps_text.specs.declared.line.Line.{Line}
 use Rattle.armcaps_text.specs.declared.line.Line.TheVariants as line
-use Rattle.armcaps_boot.specs.declared.step_line.StepLine.{StepLine}
+use Rattle.armcaps_board.specs.declared.step_line.StepLine.{StepLine}
 
 -- the line begins a core
 abbrev pub is_core : Line (List ℕ) → Bool

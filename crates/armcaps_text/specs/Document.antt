@@ -21,7 +21,7 @@ use Rattle.armcaps_text.specs.declared.kind.TextRefused.{TextRefused}
 use Rattle.armcaps_text.specs.declared.kind.TextRefused.TheVariants as refused
 use Rattle.armcaps_text.specs.declared.line.Line.{Line}
 use Rattle.armcaps_text.specs.declared.machine.Machine.{Machine}
-use Rattle.armcaps_boot.specs.declared.step_line.StepLine.{StepLine}
+use Rattle.armcaps_board.specs.declared.step_line.StepLine.{StepLine}
 
 -- what a text says of a machine: what each core tells of itself, the boot core, the overrides of the command line, the steps,
 -- the named numbers and callbacks and the conduit, the place of the table, and the length of the image

@@ -5,8 +5,8 @@ use Rattle.std.specs.List.{range_with_len}
 use Rattle.armcaps_alt.specs.Names.{NameLists}
 use Rattle.armcaps_alt.specs.declared.named_number.Named.TheVariants.{Cap}
 use Rattle.armcaps_alt.specs.declared.smccc_conduit.Conduit.TheVariants as conduit
-use Rattle.armcaps_boot.specs.declared.step_line.StepLine.{StepLine}
-use Rattle.armcaps_boot.specs.declared.step_line.StepLine.TheVariants.{Online, Finalise}
+use Rattle.armcaps_board.specs.declared.step_line.StepLine.{StepLine}
+use Rattle.armcaps_board.specs.declared.step_line.StepLine.TheVariants.{Online, Finalise}
 use Rattle.armcaps_caps.specs.Rows.{capability_count}
 use Rattle.armcaps_cmdline.specs.Overrides.{command_line_overrides}
 use Rattle.armcaps_enc.specs.declared.register.SysReg.TheVariants.{MidrEl1, IdAa64Pfr0El1, IdAa64Dfr0El1, IdAa64Isar0El1, IdAa64Mmfr0El1, CtrEl0, DczidEl0}

@@ -1,6 +1,6 @@
 -- What is kept of steps so that the last step of a core, and whether one is on its way up, are known at once.
 use Rattle.std.specs.Prelude.{◌≡◌, ℕ, Bool, if◌then◌else◌, List, sum_by, Option, None, slice_index_or}
-use Rattle.armcaps_boot.specs.declared.step_line.StepLine.{StepLine}
+use Rattle.armcaps_board.specs.declared.step_line.StepLine.{StepLine}
 use Rattle.armcaps_text.specs.Steps.{last_step, is_begun, is_final}
 
 -- 1 for a core that is on its way up

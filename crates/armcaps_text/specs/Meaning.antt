@@ -8,8 +8,8 @@ use Rattle.armcaps_text.specs.declared.format.Format.{Format}
 use Rattle.armcaps_text.specs.declared.kind.TextKind.{TextKind}
 use Rattle.armcaps_text.specs.declared.line.Line.{Line}
 use Rattle.armcaps_text.specs.declared.line.Line.TheVariants.{Skipped, Unknown, Malformed, Header, Core, Register, VectorLengths, Boot, CommandLine, Step, Number, Given, Conduit, Callback, Table, Image}
-use Rattle.armcaps_boot.specs.declared.step_line.StepLine.{StepLine}
-use Rattle.armcaps_boot.specs.declared.step_line.StepLine.TheVariants.{Check, Local, Store, Online, Offline, Finalise}
+use Rattle.armcaps_board.specs.declared.step_line.StepLine.{StepLine}
+use Rattle.armcaps_board.specs.declared.step_line.StepLine.TheVariants.{Check, Local, Store, Online, Offline, Finalise}
 use Rattle.armcaps_text.specs.declared.tokens.Tokens.{Tokens}
 use Rattle.armcaps_text.specs.Arguments.{and_then, has_count, core_argument, word_argument, lengths_argument, number_arguments, given_arguments, conduit_argument, callback_arguments, table_arguments, image_argument}
 use Rattle.armcaps_text.specs.Forms.{form_of, section_of_form}

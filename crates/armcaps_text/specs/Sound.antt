@@ -1,7 +1,7 @@
 -- What holds of every reading.
 use Rattle.std.specs.Prelude.{◌≡◌, ℕ, ◌+◌, ◌*◌, ◌^◌, ◌<◌, ◌≤◌, true, length, None}
-use Rattle.armcaps_boot.specs.Order.{in_order, is_complete}
-use Rattle.armcaps_boot.specs.Steps.{history}
+use Rattle.armcaps_board.specs.Order.{in_order, is_complete}
+use Rattle.armcaps_board.specs.Steps.{history}
 use Rattle.armcaps_enc.specs.declared.register.SysReg.TheVariants.{CtrEl0}
 use Rattle.armcaps_tables.specs.Overriding.{AllFit, override_of}
 use Rattle.armcaps_text.specs.Document.{Reading}

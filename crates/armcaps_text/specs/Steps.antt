@@ -3,8 +3,8 @@
 use Rattle.std.specs.Prelude.{ℕ, ◌==◌, ◌||◌, Bool, true, false, List, find, filter_map, reverse, Option, Some, None}
 use Rattle.std.specs.Option.{option_map_or}
 use Rattle.std.specs.List.{list_any}
-use Rattle.armcaps_boot.specs.declared.step_line.StepLine.{StepLine}
-use Rattle.armcaps_boot.specs.declared.step_line.StepLine.TheVariants.{Check, Local, Store, Online, Offline, Finalise}
+use Rattle.armcaps_board.specs.declared.step_line.StepLine.{StepLine}
+use Rattle.armcaps_board.specs.declared.step_line.StepLine.TheVariants.{Check, Local, Store, Online, Offline, Finalise}
 
 -- the core that a step is of
 abbrev pub core_of : StepLine → Option ℕ

@@ -1,7 +1,7 @@
 // Machines with large images, made from a number.
 ghost use Rattle.std.specs.Prelude.{◌≡◌, ◌-◌, ◌≤◌, ◌++◌, IfOk, OnOk, map};
 ghost use Rattle.std.specs.List.{range_with_len};
-ghost use Rattle.armcaps_boot.specs.declared.step_line.StepLine.TheVariants.{Online};
+ghost use Rattle.armcaps_board.specs.declared.step_line.StepLine.TheVariants.{Online};
 ghost use Rattle.armcaps_text.specs.Document.{reading_of};
 ghost use Rattle.armcaps_text.specs.Generator.{generated_names, generated_reading, generated_steps};
 ghost use Rattle.armcaps_text.specs.LargeImage.{generated_image};

@@ -18,7 +18,7 @@ pub struct Steps {
 
 impl Model for Steps {
     ghost use Rattle.std.specs.Prelude.{List};
-    ghost use Rattle.armcaps_boot.specs.declared.step_line.StepLine.{StepLine};
+    ghost use Rattle.armcaps_board.specs.declared.step_line.StepLine.{StepLine};
     ghost use Rattle.armcaps_text.specs.Kept.{AreKept};
 
     ghost Value = { List StepLine };

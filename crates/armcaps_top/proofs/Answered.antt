@@ -2,14 +2,15 @@
 use Rattle.std.proofs.Common.{◌≡◌, ℕ, ◌<◌, Bool, true, cond, List, [], ◌∷◌, ◌++◌, length, Option, Some, None, refl, sym, ap, subst, ◌∙◌}
 use Rattle.std.specs.Prelude.{Result, Ok, Err, IfOk, reverse}
 use Rattle.std.specs.List.{flat_map}
-use Rattle.armcaps_boot.specs.declared.event.Event.{Event}
+use Rattle.armcaps_board.specs.declared.event.Event.{Event}
 use Rattle.armcaps_boot.specs.declared.halt.Halt.{Halt}
-use Rattle.armcaps_boot.specs.Admission.{Board, halt_of, steps_made}
+use Rattle.armcaps_board.specs.Board.{Board}
+use Rattle.armcaps_boot.specs.Admission.{halt_of, steps_made}
 use Rattle.armcaps_boot.specs.After.{IsAfter}
 use Rattle.armcaps_boot.specs.First.{first_world}
-use Rattle.armcaps_boot.specs.Order.{in_order, is_complete}
+use Rattle.armcaps_board.specs.Order.{in_order, is_complete}
 use Rattle.armcaps_boot.specs.Outcome.{IsBoard}
-use Rattle.armcaps_boot.specs.Steps.{events_of, history}
+use Rattle.armcaps_board.specs.Steps.{events_of, history}
 use Rattle.armcaps_boot.specs.World.{World}
 use Rattle.armcaps_text.specs.Document.{Reading}
 use Rattle.armcaps_text.specs.Sound.{IsSound}

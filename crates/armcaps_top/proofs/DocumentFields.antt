@@ -12,7 +12,7 @@ use Rattle.armcaps_tables.specs.Overriding.{override_of}
 use Rattle.armcaps_tables.specs.Row.{Row}
 use Rattle.armcaps_sanit.specs.System.{field_values, system_field}
 use Rattle.armcaps_boot.specs.Admission.{is_among_admitted}
-use Rattle.armcaps_boot.specs.World.{core_at}
+use Rattle.armcaps_board.specs.Board.{core_at}
 use Rattle.armcaps_boot.proofs.ChosenCores.{Among, chosen-among}
 use Rattle.armcaps_text.specs.Document as text
 use Rattle.armcaps_text.specs.Document.{Outcome, Reading, outcome}

@@ -4,9 +4,9 @@ use Rattle.std.specs.Prelude.{Ok, reverse}
 use Rattle.armcaps_boot.specs.Admission.{halt_of, steps_made}
 use Rattle.armcaps_boot.specs.After.{IsAfter}
 use Rattle.armcaps_boot.specs.Findings.{Findings, findings_of}
-use Rattle.armcaps_boot.specs.Steps.{history}
+use Rattle.armcaps_board.specs.Steps.{history}
 use Rattle.armcaps_boot.specs.World.{World}
-use Rattle.armcaps_boot.specs.declared.event.Event.{Event}
+use Rattle.armcaps_board.specs.declared.event.Event.{Event}
 use Rattle.armcaps_patch.specs.Features.{features_of, features_of_findings}
 use Rattle.armcaps_text.specs.Document.{Reading}
 use Rattle.armcaps_text.specs.Generator.{generated_reading}

@@ -6,10 +6,11 @@ use Rattle.std.proofs.lemmas.Bool.{cases_lt}
 use Rattle.armcaps_boot.specs.declared.cause.Cause.{Cause}
 use Rattle.armcaps_boot.specs.declared.core_state.CoreState.{CoreState}
 use Rattle.armcaps_boot.specs.declared.core_state.CoreState.TheVariants.{Absent, Parked, Panicked as HasPanicked}
-use Rattle.armcaps_boot.specs.declared.event.Event.{Event}
-use Rattle.armcaps_boot.specs.declared.event.Event.TheVariants.{Check, Local, Store, Offline, Finalise}
+use Rattle.armcaps_board.specs.declared.event.Event.{Event}
+use Rattle.armcaps_board.specs.declared.event.Event.TheVariants.{Check, Local, Store, Offline, Finalise}
 use Rattle.armcaps_boot.specs.declared.past.Past.{Past}
-use Rattle.armcaps_boot.specs.Admission.{Board, halt_of, held_back, steps_made}
+use Rattle.armcaps_board.specs.Board.{Board}
+use Rattle.armcaps_boot.specs.Admission.{halt_of, held_back, steps_made}
 use Rattle.armcaps_boot.specs.After.{IsAfter, past_from, state_from, state_of}
 use Rattle.armcaps_boot.specs.Causes.{stops_machine}
 use Rattle.armcaps_boot.specs.Facts.{Facts}
@@ -23,8 +24,8 @@ use Rattle.armcaps_patch.specs.Kept.{Planned, StandsFor}
 use Rattle.armcaps_patch.specs.Features.{features_of, features_of_findings}
 use Rattle.armcaps_text.specs.Document.{Reading}
 use Rattle.armcaps_top.specs.Patch.{patch_output}
-use Rattle.armcaps_boot.specs.Order.{is_begun_last, is_complete, is_some_in_flight}
-use Rattle.armcaps_boot.specs.Steps.{is_final, last_step}
+use Rattle.armcaps_board.specs.Order.{is_begun_last, is_complete, is_some_in_flight}
+use Rattle.armcaps_board.specs.Steps.{is_final, last_step}
 use Rattle.armcaps_boot.specs.World.{World, state_at}
 use Rattle.armcaps_boot.proofs.Histories.{and_left, and_right, none_in_flight, not_true}
 use Rattle.armcaps_boot.proofs.Holding.{state_of-boot, state_of-other}

@@ -3,12 +3,13 @@ use Rattle.std.proofs.Common.{◌≡◌, ℕ, ◌+◌, ◌<◌, Bool, true, fals
 use Rattle.std.specs.Prelude.{reverse, Result, Ok, Option, Some, None, is_some}
 use Rattle.std.specs.Option.{option_or}
 use Rattle.std.proofs.lemmas.List.{reverse-append, take_more}
-use Rattle.armcaps_boot.specs.declared.event.Event.{Event}
+use Rattle.armcaps_board.specs.declared.event.Event.{Event}
 use Rattle.armcaps_boot.specs.declared.halt.Halt.{Halt}
 use Rattle.armcaps_boot.specs.declared.refused.StepRefused.{StepRefused}
 use Rattle.armcaps_boot.specs.declared.reply.Reply.{Reply}
-use Rattle.armcaps_boot.specs.Admission.{Board, halt_at, halt_of, steps_made}
-use Rattle.armcaps_boot.specs.Order.{in_order, is_next}
+use Rattle.armcaps_board.specs.Board.{Board}
+use Rattle.armcaps_boot.specs.Admission.{halt_at, halt_of, steps_made}
+use Rattle.armcaps_board.specs.Order.{in_order, is_next}
 use Rattle.armcaps_top.specs.Bringing.{steps_before}
 
 -- what is answered alike is alike

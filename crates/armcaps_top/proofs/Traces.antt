@@ -6,11 +6,12 @@ use Rattle.armcaps_tables.specs.Core.{Core}
 use Rattle.armcaps_tables.specs.Overriding.{FieldOverrides}
 use Rattle.armcaps_sanit.specs.System.{IsSystemOf}
 use Rattle.armcaps_boot.specs.declared.core_state.CoreState.{CoreState}
-use Rattle.armcaps_boot.specs.declared.event.Event.{Event}
-use Rattle.armcaps_boot.specs.Admission.{Board, has_come, is_among_admitted}
+use Rattle.armcaps_board.specs.declared.event.Event.{Event}
+use Rattle.armcaps_board.specs.Board.{Board}
+use Rattle.armcaps_boot.specs.Admission.{has_come, is_among_admitted}
 use Rattle.armcaps_boot.specs.After.{IsAfter, state_of, states_after}
 use Rattle.armcaps_boot.specs.Choosing.{chosen}
-use Rattle.armcaps_boot.specs.Order.{in_order}
+use Rattle.armcaps_board.specs.Order.{in_order}
 use Rattle.armcaps_boot.specs.States.{is_admitted}
 use Rattle.armcaps_boot.specs.World.{World, admitted_cores, state_at}
 use Rattle.armcaps_boot.proofs.ShorterHistories.{chosen-within, state_at-after}

@@ -1,11 +1,12 @@
 -- A machine in the middle of its steps.
 use Rattle.std.specs.Prelude.{◌≡◌, ℕ, true, List, length, take, reverse, None}
-use Rattle.armcaps_boot.specs.declared.event.Event.{Event}
+use Rattle.armcaps_board.specs.declared.event.Event.{Event}
 use Rattle.armcaps_boot.specs.After.{IsAfter}
-use Rattle.armcaps_boot.specs.Admission.{Board, halt_of}
-use Rattle.armcaps_boot.specs.Order.{in_order, is_complete}
+use Rattle.armcaps_board.specs.Board.{Board}
+use Rattle.armcaps_boot.specs.Admission.{halt_of}
+use Rattle.armcaps_board.specs.Order.{in_order, is_complete}
 use Rattle.armcaps_boot.specs.Outcome.{IsSafe}
-use Rattle.armcaps_boot.specs.Steps.{history}
+use Rattle.armcaps_board.specs.Steps.{history}
 use Rattle.armcaps_boot.specs.World.{World}
 use Rattle.armcaps_text.specs.Document.{Reading}
 use Rattle.armcaps_top.specs.Output.{board_of}

@@ -7,12 +7,12 @@ use Rattle.armcaps_alt.specs.Entries.{Features, selected_of}
 use Rattle.armcaps_alt.specs.Patched.{covers, patched_image}
 use Rattle.armcaps_alt.specs.declared.table_entry.Entry.{Entry}
 use Rattle.armcaps_alt.specs.declared.table_place.Layout.{Layout}
-use Rattle.armcaps_boot.specs.Admission.{Board}
+use Rattle.armcaps_board.specs.Board.{Board}
 use Rattle.armcaps_boot.specs.Findings.{Findings, findings_after}
 use Rattle.armcaps_boot.specs.World.{state_at}
 use Rattle.armcaps_boot.specs.declared.core_state.CoreState.{CoreState}
 use Rattle.armcaps_boot.specs.declared.core_state.CoreState.TheVariants.{Admitted, Parked}
-use Rattle.armcaps_boot.specs.declared.event.Event.{Event}
+use Rattle.armcaps_board.specs.declared.event.Event.{Event}
 use Rattle.armcaps_patch.specs.Features.{features_of_findings}
 use Rattle.armcaps_text.specs.Document.{Reading}
 use Rattle.armcaps_text.specs.Generator.{generated_reading}

@@ -1,8 +1,9 @@
 -- What the parts of a run promise each other.
 use Rattle.std.specs.Prelude.{◌≡◌, ◌≢◌, ℕ, ◌≤◌, true, List, [], ◌∷◌, Option, Some, Result, Err, IfSome}
-use Rattle.armcaps_boot.specs.declared.event.Event.{Event}
+use Rattle.armcaps_board.specs.declared.event.Event.{Event}
 use Rattle.armcaps_boot.specs.After.{IsAfter}
-use Rattle.armcaps_boot.specs.Admission.{Board, steps_made}
+use Rattle.armcaps_board.specs.Board.{Board}
+use Rattle.armcaps_boot.specs.Admission.{steps_made}
 use Rattle.armcaps_boot.specs.World.{World}
 use Rattle.armcaps_boot.specs.Outcome.{IsSafe}
 use Rattle.armcaps_io.specs.Causes.{Rose}

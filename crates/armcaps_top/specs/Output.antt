@@ -1,8 +1,9 @@
 -- What a command writes of a document, and why it may write nothing.
 use Rattle.std.specs.Prelude.{ℕ, List, Option, Some, None, Result, Ok, Err}
-use Rattle.armcaps_boot.specs.declared.event.Event.{Event}
+use Rattle.armcaps_board.specs.declared.event.Event.{Event}
 use Rattle.armcaps_boot.specs.declared.halt.Halt.{Halt}
-use Rattle.armcaps_boot.specs.Admission.{Board, halt_of}
+use Rattle.armcaps_board.specs.Board.{Board}
+use Rattle.armcaps_boot.specs.Admission.{halt_of}
 use Rattle.armcaps_boot.specs.Findings.{findings_after}
 use Rattle.armcaps_mrs.specs.Reading.{user_read}
 use Rattle.armcaps_report.specs.Report.{report_of}

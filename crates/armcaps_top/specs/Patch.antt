@@ -6,8 +6,8 @@ use Rattle.armcaps_alt.specs.Entries.{Features}
 use Rattle.armcaps_alt.specs.Patched.{patched_image}
 use Rattle.armcaps_alt.specs.Refusals as alternatives
 use Rattle.armcaps_alt.specs.Refusals.{first_refusal, kind_number, kind_word}
-use Rattle.armcaps_boot.specs.declared.event.Event.{Event}
-use Rattle.armcaps_boot.specs.Admission.{Board}
+use Rattle.armcaps_board.specs.declared.event.Event.{Event}
+use Rattle.armcaps_board.specs.Board.{Board}
 use Rattle.armcaps_boot.specs.Findings.{findings_after}
 use Rattle.armcaps_patch.specs.Features.{features_of_findings}
 use Rattle.armcaps_text.specs.Document.{Reading}

@@ -4,12 +4,12 @@ use Rattle.std.specs.Option.{option_map}
 use Rattle.std.specs.Result.{IsOkAnd, IsErr}
 use Rattle.armcaps_tables.specs.Core.{Core}
 use Rattle.armcaps_alt.specs.declared.patch_kind.PatchKind.{PatchKind}
-use Rattle.armcaps_boot.specs.declared.event.Event.{Event}
+use Rattle.armcaps_board.specs.declared.event.Event.{Event}
 use Rattle.armcaps_boot.specs.declared.halt.Halt.{Halt}
 use Rattle.armcaps_boot.specs.After.{IsAfter}
 use Rattle.armcaps_boot.specs.Admission.{admitted_of, halt_of, steps_made}
 use Rattle.armcaps_boot.specs.Outcome.{IsSafe}
-use Rattle.armcaps_boot.specs.Steps.{history}
+use Rattle.armcaps_board.specs.Steps.{history}
 use Rattle.armcaps_boot.specs.World.{World}
 use Rattle.armcaps_io.specs.Causes.{Rose}
 use Rattle.armcaps_io.specs.Streams.{Appends, AppendsPrefix, GivesAtMost, Keeps}

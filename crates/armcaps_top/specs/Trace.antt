@@ -8,11 +8,12 @@ use Rattle.armcaps_enc.specs.Registers.{tracked}
 use Rattle.armcaps_tables.specs.Core.{Core}
 use Rattle.armcaps_tables.specs.Overriding.{FieldOverrides}
 use Rattle.armcaps_sanit.specs.System.{system_word}
-use Rattle.armcaps_boot.specs.declared.event.Event.{Event}
-use Rattle.armcaps_boot.specs.declared.event.Event.TheVariants.{Check, Local, Store, Offline, Finalise}
+use Rattle.armcaps_board.specs.declared.event.Event.{Event}
+use Rattle.armcaps_board.specs.declared.event.Event.TheVariants.{Check, Local, Store, Offline, Finalise}
 use Rattle.armcaps_boot.specs.declared.reply.Reply.{Reply}
 use Rattle.armcaps_boot.specs.declared.reply.Reply.TheVariants.{Done, Parked, Panicked, Skipped}
-use Rattle.armcaps_boot.specs.Admission.{Board, has_come, is_among_admitted}
+use Rattle.armcaps_board.specs.Board.{Board}
+use Rattle.armcaps_boot.specs.Admission.{has_come, is_among_admitted}
 use Rattle.armcaps_boot.specs.After.{reply_of}
 use Rattle.armcaps_boot.specs.Choosing.{chosen}
 use Rattle.armcaps_report.specs.Lines.{register_line}

@@ -3,7 +3,7 @@
 ghost use Rattle.std.specs.Prelude.{◌≡◌, ◌<◌, ◌+◌, IfOk, length, reverse, slice_index_or};
 ghost use Rattle.armcaps_boot.specs.After.{IsAfter, reply_of};
 ghost use Rattle.armcaps_boot.specs.Admission.{halt_of, steps_made};
-ghost use Rattle.armcaps_boot.specs.declared.event.Event.TheVariants as Event;
+ghost use Rattle.armcaps_board.specs.declared.event.Event.TheVariants as Event;
 ghost use Rattle.armcaps_text.specs.Document.{reading_of};
 ghost use Rattle.armcaps_text.specs.Sound.{IsSound};
 ghost use Rattle.armcaps_top.specs.Bringing.{IsAt, IsBegun, board_in, steps_before};

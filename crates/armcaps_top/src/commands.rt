@@ -3,7 +3,7 @@
 ghost use Rattle.std.specs.Prelude.{◌≡◌, ◌≢◌, Ok, Err, IfOk, IfErr, true, length, map, reverse, string_bytes};
 ghost use Rattle.armcaps_boot.specs.After.{IsAfter};
 ghost use Rattle.armcaps_boot.specs.Admission.{steps_made};
-ghost use Rattle.armcaps_boot.specs.Order.{is_complete};
+ghost use Rattle.armcaps_board.specs.Order.{is_complete};
 ghost use Rattle.armcaps_top.specs.Bringing.{IsAt, board_in};
 ghost use Rattle.armcaps_top.specs.Inside.{IsInstead};
 ghost use Rattle.armcaps_top.specs.Output.{output_after};

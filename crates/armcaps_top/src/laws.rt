@@ -10,7 +10,7 @@ ghost use Rattle.armcaps_tables.specs.Row.{Row};
 ghost use Rattle.armcaps_tables.specs.Rows.{rows_of};
 ghost use Rattle.armcaps_sanit.specs.System.{field_values, system_field, system_word};
 ghost use Rattle.armcaps_sanit.specs.Users.{user_field, user_word};
-ghost use Rattle.armcaps_boot.specs.World.{core_at};
+ghost use Rattle.armcaps_board.specs.Board.{core_at};
 ghost use Rattle.armcaps_top.specs.Document.{Document, document};
 ghost use Rattle.armcaps_top.specs.Run.{admitted_in};
 

@@ -8,7 +8,7 @@ ghost use Rattle.armcaps_alt.specs.Patched.{patched_image};
 ghost use Rattle.armcaps_patch.specs.Features.{features_of_findings};
 ghost use Rattle.armcaps_patch.specs.Kept.{StandsFor};
 ghost use Rattle.armcaps_boot.specs.Outcome.{IsSafe};
-ghost use Rattle.armcaps_boot.specs.Steps.{history};
+ghost use Rattle.armcaps_board.specs.Steps.{history};
 ghost use Rattle.armcaps_boot.specs.World.{World};
 ghost use Rattle.armcaps_io.specs.Streams.{GivesAtMost};
 ghost use Rattle.armcaps_text.specs.Document.{reading_of};

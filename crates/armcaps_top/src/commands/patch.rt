@@ -3,7 +3,7 @@
 ghost use Rattle.std.specs.Prelude.{◌≡◌, ◌≢◌, ◌≤◌, ◌+◌, ◌*◌, ◌^◌, Ok, Err, None, IfOk, IfErr, true, length, reverse};
 ghost use Rattle.armcaps_boot.specs.After.{IsAfter};
 ghost use Rattle.armcaps_boot.specs.Admission.{halt_of, steps_made};
-ghost use Rattle.armcaps_boot.specs.Order.{is_complete};
+ghost use Rattle.armcaps_board.specs.Order.{is_complete};
 ghost use Rattle.armcaps_boot.specs.Findings.{findings_after};
 ghost use Rattle.armcaps_patch.specs.Features.{features_of_findings};
 ghost use Rattle.armcaps_patch.specs.Kept.{StandsFor};

@@ -8,7 +8,7 @@ ghost use Rattle.armcaps_tables.specs.Overriding.{FieldOverrides};
 ghost use Rattle.armcaps_sanit.specs.System.{IsSystemOf};
 ghost use Rattle.armcaps_boot.specs.After.{IsAfter};
 ghost use Rattle.armcaps_boot.specs.Admission.{halt_of, steps_made};
-ghost use Rattle.armcaps_boot.specs.declared.event.Event.TheVariants as Event;
+ghost use Rattle.armcaps_board.specs.declared.event.Event.TheVariants as Event;
 ghost use Rattle.armcaps_top.specs.Bringing.{IsAt, board_in, steps_before};
 ghost use Rattle.armcaps_top.specs.Inside.{IsInstead};
 ghost use Rattle.armcaps_top.specs.Output.{output_after};

@@ -1,7 +1,8 @@
 use Rattle.std.proofs.Common.{◌&&◌, false, arith, sym, ◌∙◌}
 use Rattle.armcaps_sanit.specs.Varying.{core_varies}
 use Rattle.armcaps_boot.specs.States.{is_admitted}
-use Rattle.armcaps_boot.specs.World.{boot_of, core_at, state_at}
+use Rattle.armcaps_board.specs.Board.{core_at}
+use Rattle.armcaps_boot.specs.World.{boot_of, state_at}
 use Rattle.armcaps_report.proofs.Searching.{below_more, none_chosen, some_chosen}
 use Rattle.armcaps_report.proofs.varying.varies_among.Goals as goal
 

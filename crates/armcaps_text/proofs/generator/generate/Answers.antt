@@ -1,7 +1,7 @@
 use Rattle.std.proofs.Common.{◌≡◌, ℕ, ◌+◌, ◌-◌, ◌≤◌, List, [], ◌∷◌, ◌++◌, length, sym, ap, subst, ◌∙◌, arith}
 use Rattle.std.specs.List.{All}
 use Rattle.armcaps_alt.specs.Names.{NameLists}
-use Rattle.armcaps_boot.specs.declared.step_line.StepLine.{StepLine}
+use Rattle.armcaps_board.specs.declared.step_line.StepLine.{StepLine}
 use Rattle.armcaps_tables.specs.Core.{Core}
 use Rattle.armcaps_tables.specs.Overriding.{FieldOverrides}
 use Rattle.armcaps_text.specs.Document.{Reading}

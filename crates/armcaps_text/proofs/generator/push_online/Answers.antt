@@ -1,7 +1,7 @@
 use Rattle.std.proofs.Common.{◌≡◌, ◌+◌, ◌-◌, ◌++◌, ◌∷◌, [], map, ℕ, sym, ap, ◌∙◌, arith, append_assoc}
 use Rattle.std.specs.List.{range_with_len}
 use Rattle.std.proofs.lemmas.List.FromFn.{map-range_with_len_more}
-use Rattle.armcaps_boot.specs.declared.step_line.StepLine.TheVariants.{Online}
+use Rattle.armcaps_board.specs.declared.step_line.StepLine.TheVariants.{Online}
 use Rattle.armcaps_text.proofs.generator.push_online.Goals as goal
 
 pub loop-core-preserved : goal.loop-core-preserved

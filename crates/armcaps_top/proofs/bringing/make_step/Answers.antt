@@ -1,7 +1,7 @@
 use Rattle.std.proofs.Common.{◌∷◌, length, get_or, refl, subst, sym, ◌∙◌}
 use Rattle.std.specs.Prelude.{List}
-use Rattle.armcaps_boot.specs.declared.event.Event.{Event}
-use Rattle.armcaps_boot.specs.declared.event.Event.TheVariants.{Check}
+use Rattle.armcaps_board.specs.declared.event.Event.{Event}
+use Rattle.armcaps_board.specs.declared.event.Event.TheVariants.{Check}
 use Rattle.armcaps_boot.specs.After.{IsAfter, reply_of}
 use Rattle.armcaps_top.specs.Bringing.{board_in, steps_before}
 use Rattle.armcaps_top.proofs.Steps.{comes_next, ok_same, steps_more}

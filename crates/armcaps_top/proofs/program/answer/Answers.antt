@@ -1,7 +1,7 @@
 use Rattle.std.proofs.Common.{◌≡◌, ℕ, true, List, rules, sym, subst, string_bytes, ◌∙◌}
 use Rattle.std.specs.Prelude.{IfErr, IfOk, Result, Ok, is_ok, reverse}
 use Rattle.armcaps_boot.specs.Outcome.{IsSafe}
-use Rattle.armcaps_boot.specs.Steps.{history}
+use Rattle.armcaps_board.specs.Steps.{history}
 use Rattle.armcaps_text.specs.Document.{reading_of}
 use Rattle.armcaps_top.specs.Bringing.{board_in}
 use Rattle.armcaps_top.specs.Inside.{IsInstead}

@@ -4,7 +4,7 @@ use Rattle.armcaps_boot.specs.declared.halt.Halt.{Halt}
 use Rattle.armcaps_boot.specs.Admission.{halt_of}
 use Rattle.armcaps_boot.specs.Findings.{Findings, findings_after}
 use Rattle.armcaps_boot.specs.Outcome.{IsSafe}
-use Rattle.armcaps_boot.specs.Steps.{history}
+use Rattle.armcaps_board.specs.Steps.{history}
 use Rattle.armcaps_alt.specs.Names.{NameLists}
 use Rattle.armcaps_alt.specs.Patched.{patched_image}
 use Rattle.armcaps_patch.specs.Features.{features_of_findings}

@@ -3,7 +3,8 @@ use Rattle.armcaps_tables.specs.Core.{Core}
 use Rattle.armcaps_boot.specs.Machine.{world_of}
 use Rattle.armcaps_boot.specs.Causes.{late_cause}
 use Rattle.armcaps_boot.specs.Scopes.{lack_of}
-use Rattle.armcaps_boot.specs.World.{core_at, early_cores, boot_of}
+use Rattle.armcaps_board.specs.Board.{core_at}
+use Rattle.armcaps_boot.specs.World.{early_cores, boot_of}
 use Rattle.armcaps_boot.proofs.Asked.{lack-late, read_core}
 use Rattle.armcaps_boot.proofs.machine.Machine.cause_at_local.Goals as goal
 

@@ -1,7 +1,7 @@
 use Rattle.std.proofs.Common.{◌≡◌, ◌∙◌, ap, sym, refl, cond, false, Bool}
 use Rattle.armcaps_boot.specs.Changes.{noted_with}
 use Rattle.armcaps_boot.specs.Machine.{world_of}
-use Rattle.armcaps_boot.specs.World.{core_at}
+use Rattle.armcaps_board.specs.Board.{core_at}
 use Rattle.armcaps_boot.proofs.Asked.{noted-local, read_core}
 use Rattle.armcaps_boot.proofs.machine.Machine.noted_with.Goals as goal
 

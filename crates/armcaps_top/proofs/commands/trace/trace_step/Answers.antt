@@ -1,9 +1,9 @@
 use Rattle.std.proofs.Common.{ℕ, ◌+◌, ◌++◌, List, arith, ap, get_or, length, string_bytes, sym, ◌∙◌}
 use Rattle.std.specs.Prelude.{reverse}
-use Rattle.armcaps_boot.specs.declared.event.Event.{Event}
-use Rattle.armcaps_boot.specs.declared.event.Event.TheVariants.{Check}
+use Rattle.armcaps_board.specs.declared.event.Event.{Event}
+use Rattle.armcaps_board.specs.declared.event.Event.TheVariants.{Check}
 use Rattle.armcaps_boot.specs.declared.reply.Reply.{Reply}
-use Rattle.armcaps_boot.specs.Admission.{Board}
+use Rattle.armcaps_board.specs.Board.{Board}
 use Rattle.armcaps_top.specs.Bringing.{board_in, steps_before}
 use Rattle.armcaps_top.specs.Trace.{admitted_by, changed_lines, step_line, step_lines}
 use Rattle.armcaps_top.proofs.Steps.{steps_more}

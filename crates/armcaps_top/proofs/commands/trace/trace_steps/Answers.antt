@@ -1,8 +1,8 @@
 use Rattle.std.proofs.Common.{ℕ, ◌++◌, List, append-nil, ap, codes, get_or, refl, string_bytes, subst, sym, ◌∙◌}
 use Rattle.std.specs.Prelude.{reverse, Ok}
-use Rattle.armcaps_boot.specs.declared.event.Event.{Event}
-use Rattle.armcaps_boot.specs.declared.event.Event.TheVariants.{Check}
-use Rattle.armcaps_boot.specs.Admission.{Board}
+use Rattle.armcaps_board.specs.declared.event.Event.{Event}
+use Rattle.armcaps_board.specs.declared.event.Event.TheVariants.{Check}
+use Rattle.armcaps_board.specs.Board.{Board}
 use Rattle.armcaps_top.specs.Bringing.{IsAt, board_in, steps_before}
 use Rattle.armcaps_top.specs.Trace.{lines_of_steps, step_lines, trace_of}
 use Rattle.armcaps_top.proofs.Brought.{board_kept, finished, goes_on, halt_found, stopped}

@@ -1,6 +1,6 @@
 ghost use Rattle.std.specs.Prelude.{◌≡◌, ◌++◌, IfOk, OnOk};
 ghost use Rattle.std.specs.List.{flat_map};
-ghost use Rattle.armcaps_boot.specs.Steps as steps;
+ghost use Rattle.armcaps_board.specs.Steps as steps;
 
 use crate::event::Event;
 use std::alloc::{AllocError, Global};

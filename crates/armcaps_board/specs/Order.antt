@@ -2,9 +2,9 @@
 -- held back makes its steps like any other: what comes of them is no part of the order.
 use Rattle.std.specs.Prelude.{ℕ, ◌==◌, Bool, true, false, not, ◌&&◌, nat_lt, List, [], ◌∷◌, Option, Some, None}
 use Rattle.std.specs.List.{list_any, range_with_len}
-use Rattle.armcaps_boot.specs.declared.event.Event.{Event}
-use Rattle.armcaps_boot.specs.declared.event.Event.TheVariants.{Check, Local, Store, Offline, Finalise}
-use Rattle.armcaps_boot.specs.Steps.{is_final, last_step}
+use Rattle.armcaps_board.specs.declared.event.Event.{Event}
+use Rattle.armcaps_board.specs.declared.event.Event.TheVariants.{Check, Local, Store, Offline, Finalise}
+use Rattle.armcaps_board.specs.Steps.{is_final, last_step}
 
 -- a core with this last step has made its check and no more
 abbrev pub is_checked_last : Option Event → Bool
