@@ -1,2 +1,4 @@
+-- Lemmas, by subject.
 pub mod PieceLemmas
+pub mod Sent
 pub mod StreamLemmas

@@ -2,4 +2,5 @@
 pub mod Causes
 pub mod Counted
 pub mod Memory
+pub mod Pieces
 pub mod Streams
