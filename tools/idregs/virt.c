@@ -62,6 +62,15 @@ static void print_decimal(unsigned int number)
 	put((char)('0' + number % 10));
 }
 
+/* Whether this runs at EL2, as on a board with `virtualization=on`: PSCI is then called by SMC, and EL2 has its own SVE registers. */
+static int is_at_el2(void)
+{
+	uint64_t level;
+
+	__asm__("mrs %0, CurrentEL" : "=r"(level));
+	return level >> 2 == 2;
+}
+
 static int64_t psci(uint64_t function, uint64_t a, uint64_t b, uint64_t c)
 {
 	register uint64_t x0 __asm__("x0") = function;
@@ -69,7 +78,10 @@ static int64_t psci(uint64_t function, uint64_t a, uint64_t b, uint64_t c)
 	register uint64_t x2 __asm__("x2") = b;
 	register uint64_t x3 __asm__("x3") = c;
 
-	__asm__ volatile("hvc #0" : "+r"(x0), "+r"(x1), "+r"(x2), "+r"(x3) : : "memory");
+	if (is_at_el2())
+		__asm__ volatile("smc #0" : "+r"(x0), "+r"(x1), "+r"(x2), "+r"(x3) : : "memory");
+	else
+		__asm__ volatile("hvc #0" : "+r"(x0), "+r"(x1), "+r"(x2), "+r"(x3) : : "memory");
 	return (int64_t)x0;
 }
 
@@ -80,13 +92,20 @@ static uint32_t vector_lengths(uint64_t pfr0)
 
 	if (FORMAT == 1 || (pfr0 >> 32 & 15) == 0)
 		return 0;
-	/* CPACR_EL1: neither SVE (ZEN) nor floating point (FPEN) is trapped */
-	__asm__ volatile("msr cpacr_el1, %0\n\tisb" : : "r"((uint64_t)3 << 20 | (uint64_t)3 << 16));
+	/* CPACR_EL1: neither SVE (ZEN) nor floating point (FPEN) is trapped; CPTR_EL2 without TZ and TFP says the same for EL2 */
+	if (is_at_el2())
+		__asm__ volatile("msr cptr_el2, %0\n\tisb" : : "r"((uint64_t)0x32ff));
+	else
+		__asm__ volatile("msr cpacr_el1, %0\n\tisb" : : "r"((uint64_t)3 << 20 | (uint64_t)3 << 16));
 	for (uint64_t q = 1; q <= 16; q++) {
 		register uint64_t bytes __asm__("x0");
 
-		/* ZCR_EL1.LEN, then RDVL x0, #1 */
-		__asm__ volatile("msr S3_0_C1_C2_0, %1\n\tisb\n\t.inst 0x04bf5020" : "=r"(bytes) : "r"(q - 1));
+		/* ZCR_EL1.LEN or ZCR_EL2.LEN, then RDVL x0, #1 */
+		if (is_at_el2())
+			__asm__ volatile("msr S3_4_C1_C2_0, %0\n\tisb" : : "r"(q - 1));
+		else
+			__asm__ volatile("msr S3_0_C1_C2_0, %0\n\tisb" : : "r"(q - 1));
+		__asm__ volatile(".inst 0x04bf5020" : "=r"(bytes));
 		if (bytes == 16 * q)
 			lengths |= 1u << (q - 1);
 	}
