@@ -20,7 +20,7 @@ EXAMPLES := $(wildcard examples/*.txt examples/*.report examples/*.trace example
 	examples/README.md
 DUMPS := $(wildcard examples/dumps/*)
 PATCHING := examples/patching/make-kernel examples/patching/cpucap-defs.h
-MODULES := $(patsubst %,tools/armcaps_tools/%.py,__init__ profile text)
+MODULES := $(patsubst %,tools/armcaps_tools/%.py,__init__ kernel linux machine profile text vmlinux)
 TABLES := $(wildcard tools/data/*.tsv)
 IDREGS := $(patsubst %,tools/idregs/%,Makefile idregs.c registers.h virt.c virt-start.S virt.ld go.S)
 LIBRARY := $(DESTDIR)$(DATADIR)/armcaps

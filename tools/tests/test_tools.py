@@ -307,47 +307,6 @@ class CommandLines(unittest.TestCase):
         )
 
 
-class Kernels(unittest.TestCase):
-    """The lines on alternatives of the small kernel in examples/patching."""
-
-    TEXT = "armcaps 1\ncore 0\nboot 0\nfinalise\nend\n"
-
-    def lines(self, *options, given=TEXT, change=lambda name: name):
-        """What is told of the small kernel, whose symbols are changed."""
-        with tempfile.TemporaryDirectory() as folder:
-            run(TOP / "examples/patching/make-kernel", folder)
-            symbols = pathlib.Path(folder) / "kernel.nm"
-            symbols.write_text(change(symbols.read_text()))
-            caps = TOP / "examples/patching/cpucap-defs.h"
-            files = ["--image", f"{folder}/kernel.img", "--nm", symbols, "--caps", caps]
-            answer = tool("kernel2text", *files, *options, "-", given=given.encode())
-            image = (pathlib.Path(folder) / "kernel.img").read_bytes()
-        if answer.returncode == 0:
-            self.assertEqual(run(PROGRAM, "report", given=answer.stdout + image).returncode, 0)
-        return answer.returncode, answer.stdout.decode().splitlines(), answer.stderr.decode()
-
-    def test_lines(self):
-        status, lines, told = self.lines("--callback", "my_callback=keep", "--on", "SPECTRE_V4", "--conduit", "hvc")
-        self.assertEqual((status, told), (0, "kernel2text: stated as off: HAS_VIRT_HOST_EXTN\n"))
-        self.assertEqual(lines[4:6], ["number 1 ALWAYS_SYSTEM", "number 35 HAS_LSE_ATOMICS"])
-        self.assertEqual(lines[-3:], ["callback 0x8c0 keep", "table 0x3000 7", "image 16384"])
-
-    def test_refusals(self):
-        keep = ("--callback", "my_callback=keep")
-        for options, named, word in [
-            ((), {}, "the callback my_callback has no kind"),
-            ((*keep, "--on", "HAS_LSE_ATOMICS"), {}, "armcaps decides it"),
-            ((*keep, "--on", "HAS_NOTHING"), {}, "the table does not use it"),
-            (keep, {"given": "armcaps 1\n"}, "does not end with `end`"),
-            (keep, {"change": lambda text: text.replace("__alt_instructions_end", "other")}, "have no __alt"),
-            (keep, {"change": lambda text: text.replace("3054 D", "3058 D")}, "is not one of this image"),
-        ]:
-            with self.subTest(word=word):
-                status, lines, told = self.lines(*options, **named)
-                self.assertEqual((status, lines), (1, []))
-                self.assertIn(word, told)
-
-
 class Statuses(unittest.TestCase):
     """The kinds that docs/STATUSES.md tells of are those of the definitions, in their order."""
 

@@ -1,0 +1,102 @@
+"""What a kernel's build left, as far as alternatives and jump labels go: names of numbers, symbols, tables."""
+
+import dataclasses
+import re
+import struct
+
+ENTRY = struct.Struct("<iiHBB")
+JUMP_ENTRY = 16
+CALLBACK = 0x8000
+
+
+class Refused(Exception):
+    """What is not taken, with what to do."""
+
+
+def symbols(data):
+    """Each symbol's address, by name, from what nm printed."""
+    found = {}
+    for line in data.decode("utf-8", "replace").splitlines():
+        parts = line.split()
+        if len(parts) >= 3 and re.fullmatch(r"[0-9a-f]{8,16}", parts[0]):
+            found[parts[2]] = int(parts[0], 16)
+    if "_text" not in found:
+        raise Refused("the symbols have no _text: they are to be those of vmlinux, as `nm vmlinux` prints them")
+    return found
+
+
+def numbers(data):
+    """The kernel's name for each number, from a C header (cpucap-defs.h, or cpucaps.h of an old kernel), or from the
+    list arch/arm64/tools/cpucaps, whose names are numbered in their order."""
+    text = data.decode("utf-8", "replace")
+    found = re.findall(r"^[ \t]*#[ \t]*define[ \t]+(?:ARM64_)?(\w+)[ \t]+(\d+)\b", text, re.MULTILINE)
+    if found:
+        return {int(number): name for name, number in found if name != "NCAPS"}
+    lines = [line.strip() for line in text.splitlines()]
+    names = [line for line in lines if line and not line.startswith("#")]
+    if not names or not all(re.fullmatch(r"\w+", name) for name in names):
+        raise Refused("--caps is neither a header with `#define ARM64_NAME N` nor the list arch/arm64/tools/cpucaps")
+    return dict(enumerate(bare(name) for name in names))
+
+
+def bare(name):
+    """A capability's name without the ARM64_ that C has."""
+    return name[len("ARM64_") :] if name.startswith("ARM64_") else name
+
+
+@dataclasses.dataclass(frozen=True)
+class Entry:
+    """An entry of the table of alternatives, its places counted from the image's first byte."""
+
+    site: int
+    other: int
+    number: int
+    callback: bool
+    length: int
+
+
+@dataclasses.dataclass(frozen=True)
+class Kernel:
+    """An image, the offsets of its symbols, and where its tables are."""
+
+    image: bytes
+    offsets: dict
+
+    def offset(self, name):
+        if name not in self.offsets:
+            raise Refused(f"the symbols have no {name}: they are to be those of vmlinux")
+        return self.offsets[name]
+
+    def span(self, first, last, size, what):
+        """Where a table begins, and how many entries it has."""
+        begin, end = self.offset(first), self.offset(last)
+        if not 0 <= begin <= end <= len(self.image) or (end - begin) % size:
+            raise Refused(f"the {what}, {begin:#x} to {end:#x}, is not one of this image of {len(self.image)} bytes")
+        return begin, (end - begin) // size
+
+    def table(self):
+        return self.span("__alt_instructions", "__alt_instructions_end", ENTRY.size, "table")
+
+    def jump_table(self):
+        """The table of jump labels, if the symbols have one."""
+        if "__start___jump_table" not in self.offsets:
+            return None
+        return self.span("__start___jump_table", "__stop___jump_table", JUMP_ENTRY, "table of jump labels")
+
+    def entries(self):
+        begin, count = self.table()
+        for place in range(begin, begin + count * ENTRY.size, ENTRY.size):
+            site, other, number, length, _ = ENTRY.unpack_from(self.image, place)
+            yield Entry(place + site, place + 4 + other, number & ~CALLBACK, bool(number & CALLBACK), length)
+
+    def names_at(self):
+        """The symbols of each offset."""
+        found = {}
+        for name, offset in self.offsets.items():
+            found.setdefault(offset, []).append(name)
+        return found
+
+
+def of_image(image, known):
+    """The kernel of an image that begins at _text."""
+    return Kernel(image, {name: address - known["_text"] for name, address in known.items()})

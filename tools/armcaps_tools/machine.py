@@ -1,0 +1,52 @@
+"""What the program says of a machine text: the system's words, and which cores are there when it is settled."""
+
+import os
+import pathlib
+import shutil
+import subprocess
+
+from . import linux, text
+
+BUILT = pathlib.Path(__file__).resolve().parent.parent.parent / "crates/armcaps/out/armcaps"
+
+
+def program():
+    """The program: $ARMCAPS, else the one on the path, else the one that this repository built."""
+    found = os.environ.get("ARMCAPS") or shutil.which("armcaps") or (str(BUILT) if BUILT.exists() else None)
+    if not found:
+        raise text.Unreadable("no program `armcaps`: put it on the path, or name it by $ARMCAPS")
+    return found
+
+
+def report(given):
+    """The report of a text."""
+    done = subprocess.run([program(), "report"], input=given, capture_output=True, check=False)
+    if done.returncode:
+        told = done.stderr.decode("utf-8", "replace").strip()
+        raise text.Unreadable(f"`armcaps report` refuses the text: {told or f'status {done.returncode}'}")
+    return text.report(done.stdout)
+
+
+def facts(given):
+    """What the rules of Linux ask of a machine."""
+    machine, told = text.machine(given), report(given)
+    words = [{"midr_el1": 0, **core} for core in machine.cores]
+    settled = before_finalise(given)
+    early = [
+        core
+        for number, core in enumerate(words)
+        if number == machine.boot or number in settled and not told.states[number].startswith("parked")
+    ]
+    return linux.Facts(told.system, words[machine.boot], early)
+
+
+def before_finalise(given):
+    """The cores that are brought up before the system is settled."""
+    found = set()
+    for line in given.decode("utf-8", "replace").splitlines():
+        tokens = line.split()
+        if tokens[:1] == ["finalise"]:
+            break
+        if len(tokens) == 2 and tokens[0] in ("store", "online"):
+            found.add(text.number(tokens[1]))
+    return found

@@ -1,0 +1,81 @@
+"""The kernel's ELF64 file: its sections, its symbols, and the flat image of what it loads."""
+
+import dataclasses
+import struct
+
+from .kernel import Refused
+
+HEADER = struct.Struct("<16sHHIQQQIHHHHHH")
+SECTION = struct.Struct("<IIQQQQIIQQ")
+SYMBOL = struct.Struct("<IBBHQQ")
+MACHINE = 183
+ALLOC, NOTHING, SYMBOLS, NO_BYTES = 2, 0, 2, 8
+PAGE = 4096
+
+
+@dataclasses.dataclass(frozen=True)
+class Section:
+    """A section of the file: where its bytes are in the file and in memory."""
+
+    name: str
+    kind: int
+    flags: int
+    address: int
+    place: int
+    size: int
+    link: int
+
+    @property
+    def is_loaded(self):
+        return self.flags & ALLOC and self.kind not in (NOTHING, NO_BYTES) and self.size
+
+
+def word_ending_at_zero(data, place):
+    return data[place : data.index(b"\0", place)].decode("utf-8", "replace")
+
+
+class Vmlinux:
+    """A kernel's file that was linked for arm64."""
+
+    def __init__(self, data):
+        if data[:7] != b"\x7fELF\x02\x01\x01" or len(data) < HEADER.size:
+            raise Refused("--vmlinux is no ELF64 file of low byte first")
+        parts = HEADER.unpack_from(data)
+        if parts[2] != MACHINE:
+            raise Refused("--vmlinux is for another machine than arm64")
+        self.data = data
+        place, count, names = parts[6], parts[12], parts[13]
+        raw = [SECTION.unpack_from(data, place + index * SECTION.size) for index in range(count)]
+        text = raw[names][4]
+        self.sections = [Section(word_ending_at_zero(data, text + row[0]), *row[1:7]) for row in raw]
+
+    def symbols(self):
+        """Each symbol's address, by name."""
+        found = {}
+        for section in self.sections:
+            if section.kind != SYMBOLS:
+                continue
+            names = self.sections[section.link].place
+            rows = self.data[section.place : section.place + section.size]
+            for name, _, _, index, value, _ in SYMBOL.iter_unpack(rows):
+                if name and index:
+                    found[word_ending_at_zero(self.data, names + name)] = value
+        if "_text" not in found:
+            raise Refused("--vmlinux has no symbols: it is to be the file that was not stripped")
+        return found
+
+    def loaded(self):
+        return sorted((section for section in self.sections if section.is_loaded), key=lambda section: section.address)
+
+    def base(self):
+        """The least address of a loaded section, at a page's begin."""
+        return self.loaded()[0].address // PAGE * PAGE
+
+    def flat(self):
+        """What is loaded, from the base on, with zeros where nothing is."""
+        sections, base = self.loaded(), self.base()
+        image = bytearray(max(section.address + section.size for section in sections) - base)
+        for section in sections:
+            at = section.address - base
+            image[at : at + section.size] = self.data[section.place : section.place + section.size]
+        return bytes(image)
