@@ -22,6 +22,34 @@ pub enum StepLine {
     Finalise,
 }
 
+impl StepLine {
+    /// The first of the events that a line stands for.
+    pub fn first_event(self) -> Event
+        ensures { result ≡ steps.first_event self }
+    {
+        match self {
+            StepLine::Check(core) | StepLine::Online(core) => Event::Check(core),
+            StepLine::Local(core) => Event::Local(core),
+            StepLine::Store(core) => Event::Store(core),
+            StepLine::Offline(core) => Event::Offline(core),
+            StepLine::Finalise => Event::Finalise,
+        }
+    }
+
+    /// The last of the events that a line stands for.
+    pub fn last_event(self) -> Event
+        ensures { result ≡ steps.last_event self }
+    {
+        match self {
+            StepLine::Check(core) => Event::Check(core),
+            StepLine::Local(core) => Event::Local(core),
+            StepLine::Store(core) | StepLine::Online(core) => Event::Store(core),
+            StepLine::Offline(core) => Event::Offline(core),
+            StepLine::Finalise => Event::Finalise,
+        }
+    }
+}
+
 /// The events that lines stand for, in their order.
 pub fn events_of(alloc: Global, lines: &[StepLine]) -> Result<Vec<Event>, AllocError>
     ensures { IfOk result (λ events. events.items ≡ flat_map steps.events_of lines.now) }
