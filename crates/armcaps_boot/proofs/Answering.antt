@@ -6,7 +6,6 @@ use Rattle.std.specs.Option.{option_or}
 use Rattle.std.proofs.lemmas.List.FromFn.{length-map-range_with_len}
 use Rattle.std.proofs.lemmas.Bool.{cases_eq, lt-ltb}
 use Rattle.armcaps_tables.specs.Core.{Core}
-use Rattle.armcaps_tables.specs.Overriding.{FieldOverrides}
 use Rattle.armcaps_boot.specs.declared.cause.Cause.{Cause}
 use Rattle.armcaps_boot.specs.declared.core_state.CoreState.{CoreState}
 use Rattle.armcaps_boot.specs.declared.core_state.CoreState.TheVariants.{Parked as IsParked, Panicked as HasPanicked}
@@ -16,19 +15,18 @@ use Rattle.armcaps_boot.specs.declared.halt.Halt.{Halt}
 use Rattle.armcaps_boot.specs.declared.past.Past.{Past}
 use Rattle.armcaps_boot.specs.declared.reply.Reply.{Reply}
 use Rattle.armcaps_board.specs.Board.{Board}
-use Rattle.armcaps_boot.specs.Admission.{came_early, early_cause_of, early_of, halt_at, halt_of, has_come, held_back, late_cause_of, was_verified}
-use Rattle.armcaps_boot.specs.After.{IsAfter, past_from, reply_from, reply_of, state_from, state_of, states_after}
-use Rattle.armcaps_boot.specs.Answers.{Answer, cause_at_check, judged, live_answer, numbered}
-use Rattle.armcaps_boot.specs.Causes.{early_cause, late_cause, stops_machine}
-use Rattle.armcaps_boot.specs.Changes.{world_after}
-use Rattle.armcaps_boot.specs.Choosing.{chosen}
-use Rattle.armcaps_boot.specs.Facts.{Facts}
 use Rattle.armcaps_board.specs.Order.{in_order}
-use Rattle.armcaps_boot.specs.States.{is_early, past_of}
 use Rattle.armcaps_board.specs.Steps.{is_final, is_finalise, is_step_of, last_step}
-use Rattle.armcaps_board.specs.Board.{core_at}
-use Rattle.armcaps_boot.specs.World.{World, boot_of, early_cores, state_at}
-use Rattle.armcaps_boot.proofs.Histories.{last-other, early-same, come-same, store_is_step}
+use Rattle.armcaps_boot.specs.Admission.{came_early, early_cores_after, halt_at, halt_of, has_come, held_back, was_verified}
+use Rattle.armcaps_boot.specs.After.{IsAfter, past_from, reply_from, reply_of, state_from, state_of, states_after}
+use Rattle.armcaps_boot.specs.Answers.{Answer, judged, live_answer, numbered}
+use Rattle.armcaps_boot.specs.Causes.{cause_at_check, cause_at_verification, stops_machine}
+use Rattle.armcaps_boot.specs.Changes.{world_after}
+use Rattle.armcaps_boot.specs.Facts.{Facts}
+use Rattle.armcaps_boot.specs.States.{past_of}
+use Rattle.armcaps_boot.specs.World.{World, early_cores, state_at}
+use Rattle.armcaps_board.proofs.Turns.{last-other}
+use Rattle.armcaps_boot.proofs.Histories.{early-same, come-same, store_is_step}
 use Rattle.armcaps_boot.proofs.Holding.{IsCase, case_of, held_from, held_is, held-other, other_number, past_by, shown_early, shown_late, shown_never, never_true, state_of-boot, state_of-other}
 use Rattle.armcaps_boot.proofs.Moves.{moved}
 use Rattle.armcaps_boot.proofs.ShorterHistories.{early_listed, state_at-after}
@@ -37,7 +35,7 @@ use Rattle.armcaps_boot.proofs.ShorterHistories.{early_listed, state_at-after}
 pub record IsTurnIn (board : Board) (p : List Event) (w : World) (k : ℕ) : Type 0 where
   pub facts : Facts w
   pub after : IsAfter board p w
-  pub order : in_order (length board.cores) board.boot p ≡ true
+  pub order : in_order board p ≡ true
   pub running : halt_of board p ≡ None
   pub within : k < length board.cores
   pub not_boot : k ≡ board.boot → ⊥
@@ -55,15 +53,15 @@ pub record IsOwn (e : Event) (k : ℕ) : Type 0 where
   pub alone : (j : ℕ) → (j ≡ k → ⊥) → is_step_of j e ≡ false
   pub not_finalise : is_finalise e ≡ false
 
-pub numbered_is : (w : World) (k : ℕ) (answer : Answer) → k < length w.cores → (k ≡ w.boot → ⊥) → numbered w k answer ≡ answer
+pub numbered_is : (w : World) (k : ℕ) (answer : Answer) → k < length w.board.cores → (k ≡ w.board.boot → ⊥) → numbered w k answer ≡ answer
 numbered_is w k answer within other =
-    let small : nat_lt k (length w.cores) ≡ true = lt-ltb k (length w.cores) within in
-    let secondary : (k == w.boot) ≡ false = other_number k w.boot other in
+    let small : nat_lt k (length w.board.cores) ≡ true = lt-ltb k (length w.board.cores) within in
+    let secondary : (k == w.board.boot) ≡ false = other_number k w.board.boot other in
     rw (small, secondary)
 
 pub numbered_in : (board : Board) (p : List Event) (w : World) (k : ℕ) (answer : Answer) → IsTurnIn board p w k → numbered w k answer ≡ answer
 numbered_in board p w k answer r =
-    numbered_is w k answer (subst (λ (l : List Core). k < length l) (sym r.after.of_board.cores) r.within) (λ e. r.not_boot (e ∙ r.after.of_board.boot))
+    numbered_is w k answer (subst (λ (l : List Core). k < length l) (sym (ap (λ (b : Board). b.cores) r.after.of_board)) r.within) (λ e. r.not_boot (e ∙ ap (λ (b : Board). b.boot) r.after.of_board))
 
 pub running_in : (board : Board) (p : List Event) (w : World) (k : ℕ) → IsTurnIn board p w k → w.halted ≡ None
 running_in board p w k r = r.after.halted ∙ r.running
@@ -74,26 +72,21 @@ shows board p w k r =
     ap (λ (l : List CoreState). state_at l k) r.after.states ∙ state_at-after board p k r.within
     ∙ state_of-other board p k (other_number k board.boot r.not_boot)
 
-pub early_is : (board : Board) (p : List Event) (w : World) (k : ℕ) → IsTurnIn board p w k → cause_at_check w k ≡ early_cause_of board k
-early_is board p w k r =
-    ap (λ (o : FieldOverrides). early_cause o (core_at w.cores w.boot) (core_at w.cores k)) r.after.of_board.overrides
-    ∙ ap (λ (l : List Core). early_cause board.overrides (core_at l w.boot) (core_at l k)) r.after.of_board.cores
-    ∙ ap (λ (b : ℕ). early_cause board.overrides (core_at board.cores b) (core_at board.cores k)) r.after.of_board.boot
+pub check_is : (board : Board) (p : List Event) (w : World) (k : ℕ) → IsAfter board p w → cause_at_check w.board k ≡ cause_at_check board k
+check_is board p w k after = ap (λ (b : Board). cause_at_check b k) after.of_board
 
-pub early_cores_are : (board : Board) (p : List Event) (w : World) → IsAfter board p w → in_order (length board.cores) board.boot p ≡ true
-    → early_cores w ≡ early_of board p
+pub early_cores_are : (board : Board) (p : List Event) (w : World) → IsAfter board p w → in_order board p ≡ true
+    → early_cores w.board w.states ≡ early_cores_after board p
 early_cores_are board p w after order =
-    ap (λ (s : List CoreState). chosen (λ n. is_early (state_at s n)) w.cores) after.states
-    ∙ ap (λ (l : List Core). chosen (λ n. is_early (state_at (states_after board p) n)) l) after.of_board.cores
+    ap (λ (s : List CoreState). early_cores w.board s) after.states
+    ∙ ap (λ (b : Board). early_cores b (states_after board p)) after.of_board
     ∙ early_listed board p order
 
-pub late_is : (board : Board) (p : List Event) (w : World) (k : ℕ) → IsAfter board p w → in_order (length board.cores) board.boot p ≡ true
-    → late_cause w.overrides (boot_of w) (early_cores w) (core_at w.cores k) ≡ late_cause_of board p k
-late_is board p w k after order =
-    ap (λ (o : FieldOverrides). late_cause o (boot_of w) (early_cores w) (core_at w.cores k)) after.of_board.overrides
-    ∙ ap (λ (l : List Core). late_cause board.overrides (boot_of w) l (core_at w.cores k)) (early_cores_are board p w after order)
-    ∙ ap (λ (l : List Core). late_cause board.overrides (core_at l w.boot) (early_of board p) (core_at l k)) after.of_board.cores
-    ∙ ap (λ (b : ℕ). late_cause board.overrides (core_at board.cores b) (early_of board p) (core_at board.cores k)) after.of_board.boot
+pub verification_is : (board : Board) (p : List Event) (w : World) (k : ℕ) → IsAfter board p w → in_order board p ≡ true
+    → cause_at_verification w.board (early_cores w.board w.states) k ≡ cause_at_verification board (early_cores_after board p) k
+verification_is board p w k after order =
+    ap (λ (l : List Core). cause_at_verification w.board l k) (early_cores_are board p w after order)
+    ∙ ap (λ (b : Board). cause_at_verification b (early_cores_after board p) k) after.of_board
 
 pub parked_state : (e : Event) (cause : Cause) (was : Past) → stops_machine cause ≡ false → state_from (Some e) (Some cause) was ≡ IsParked cause
 parked_state e cause was goes = rw goes
@@ -105,7 +98,7 @@ panicked_state e cause was stops = rw stops
 pub not_held : (board : Board) (p : List Event) (k : ℕ) → last_step k p ≡ None → held_back board p k ≡ None
 not_held board p k none =
     held_is board p k
-    ∙ ap (λ (o : Option Event). held_from (is_some o) (early_cause_of board k) (was_verified k p) (came_early k p) (late_cause_of board p k)) none
+    ∙ ap (λ (o : Option Event). held_from (is_some o) (cause_at_check board k) (was_verified k p) (came_early k p) (cause_at_verification board (early_cores_after board p) k)) none
 
 pub stepped_if_held : (board : Board) (p : List Event) (k : ℕ) (cause : Cause) → held_back board p k ≡ Some cause → is_some (last_step k p) ≡ true
 stepped_if_held board p k cause held = by (last_step k p) refl where
@@ -147,7 +140,7 @@ pub past_in : (board : Board) (p : List Event) (w : World) (k : ℕ) → IsTurnI
     → past_of (state_at w.states k) ≡ past_from k p
 past_in board p w k r free =
     ap past_of (shows board p w k r ∙ ap (λ (o : Option Cause). state_from (last_step k p) o (past_from k p)) free)
-    ∙ unheld_past (last_step k p) (was_verified k p) (came_early k p) (has_come k p) (case_of (length board.cores) board.boot p r.order k r.within)
+    ∙ unheld_past (last_step k p) (was_verified k p) (came_early k p) (has_come k p) (case_of board p r.order k)
 
 pub judged_reply : (cause : Option Cause) → judged cause ≡ Ok (reply_from None cause)
 judged_reply None = refl
@@ -206,7 +199,7 @@ pub after_moved : (board : Board) (p : List Event) (e : Event) (w : World) (k : 
     → IsAfter board (e ∷ p) (moved w k state halted system noted kept)
 unfolding states_after
 after_moved board p e w k state halted system noted kept r o is halts = record {
-  of_board = record { cores = r.after.of_board.cores; boot = r.after.of_board.boot; overrides = r.after.of_board.overrides };
+  of_board = r.after.of_board;
   states = ap (λ (l : List CoreState). set l k state) r.after.states
       ∙ states_set (state_of board p) (state_of board (e ∷ p)) state 0 (length board.cores) k k r.within (omega arith) is (λ j other. state_stays board e p j (o.alone j other));
   final = r.after.final ∙ sym (final_same e p o.not_finalise);

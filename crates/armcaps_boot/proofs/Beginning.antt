@@ -5,21 +5,20 @@ use Rattle.std.specs.List.{list_any, list_all}
 use Rattle.std.proofs.lemmas.Bool.{cases_eq, le-ltb}
 use Rattle.armcaps_enc.specs.declared.register.SysReg.TheVariants.{CtrEl0}
 use Rattle.armcaps_tables.specs.Core.{Core}
-use Rattle.armcaps_tables.specs.Overriding.{FieldOverrides, AllFit, override_of}
+use Rattle.armcaps_board.specs.Board.{Board, IsBoard, boot_core, core_at}
+use Rattle.armcaps_boot.specs.Causes.{asid_bits, cause_at_check, cause_at_verification, first_conflict, has_capability, has_length}
+use Rattle.armcaps_boot.specs.Choosing.{chosen}
+use Rattle.armcaps_boot.specs.Facts.{Facts, IsGathering, IsStateOf, StateFits}
+use Rattle.armcaps_boot.specs.First.{first_states, first_world}
+use Rattle.armcaps_boot.specs.Numbers.{first_of, numbers}
+use Rattle.armcaps_boot.specs.States.{is_admitted, is_early}
+use Rattle.armcaps_boot.specs.World.{World, early_cores, state_at}
 use Rattle.armcaps_sanit.specs.System.{IsSystemOf, system_words}
 use Rattle.armcaps_caps.specs.Capabilities.{conflicts, is_boot_scope, is_local_scope}
 use Rattle.armcaps_caps.specs.Set.{holds}
 use Rattle.armcaps_boot.specs.declared.cause.Cause.{Cause}
 use Rattle.armcaps_boot.specs.declared.core_state.CoreState.{CoreState}
 use Rattle.armcaps_boot.specs.declared.core_state.CoreState.TheVariants.{Absent, Admitted, Panicked}
-use Rattle.armcaps_boot.specs.Causes.{asid_bits, early_cause, late_cause, has_capability, has_length, first_conflict}
-use Rattle.armcaps_boot.specs.Choosing.{chosen}
-use Rattle.armcaps_boot.specs.Facts.{Facts, IsStateOf, IsGathering, StateFits}
-use Rattle.armcaps_boot.specs.First.{first_states, first_world}
-use Rattle.armcaps_boot.specs.Numbers.{numbers}
-use Rattle.armcaps_boot.specs.States.{is_admitted, is_early}
-use Rattle.armcaps_board.specs.Board.{core_at}
-use Rattle.armcaps_boot.specs.World.{World, state_at, early_cores}
 use Rattle.armcaps_boot.proofs.ChosenCores.{chosen-added, Added}
 use Rattle.armcaps_boot.proofs.CoreSteps.{shows}
 use Rattle.armcaps_boot.proofs.FirstNumbers.{first_of-none, numbers-same}
@@ -58,13 +57,13 @@ boot_alone test cores boot within yes_ no_ =
     (ap test (state-here (replicate (length cores) Absent) boot (Admitted false) (omega (arith, length-all (length cores)))) ∙ yes_)
     (λ j other. sym (ap test (state-other (replicate (length cores) Absent) boot j (Admitted false) other ∙ all_absent (length cores) j) ∙ no_))))
 
--- the boot core has no early cause
-pub boot_has_no_cause : (o : FieldOverrides) (boot : Core) → early_cause o boot boot ≡ None
-unfolding early_cause
-boot_has_no_cause o boot =
-    let level : nat_lt (asid_bits boot) (asid_bits boot) ≡ false = le-ltb (asid_bits boot) (asid_bits boot) (omega arith) in
-    let none : first_conflict is_boot_scope (has_capability o boot boot) (has_capability o boot boot) ≡ None =
-    first_of-none _ 0 53 (λ n low within. by (is_boot_scope n) n (has_capability o boot boot n)) in
+-- the boot core has no cause at its check
+pub boot_has_no_cause : (board : Board) → cause_at_check board board.boot ≡ None
+unfolding cause_at_check
+boot_has_no_cause board =
+    let level : nat_lt (asid_bits (boot_core board)) (asid_bits (boot_core board)) ≡ false = le-ltb (asid_bits (boot_core board)) (asid_bits (boot_core board)) (omega arith) in
+    let none : first_conflict is_boot_scope (has_capability board (boot_core board)) (has_capability board (boot_core board)) ≡ None =
+    first_of-none _ 0 53 (λ n low within. by (is_boot_scope n) n (has_capability board (boot_core board) n)) in
     rw (level, none) where
       by : (scope : Bool) (n : ℕ) (has : Bool) → (scope && conflicts n has has) ≡ false
       by false n has = refl
@@ -99,65 +98,67 @@ and_all : (b : Bool) → b ≡ (b && true)
 and_all true = refl
 and_all false = refl
 
-pub first_facts : (cores : List Core) (boot : ℕ) (o : FieldOverrides) → boot < length cores → length cores ≤ 512 → AllFit o
-    → ((index : ℕ) → override_of o CtrEl0 index ≡ None) → Facts (first_world cores boot o)
-first_facts cores boot o within few fit plain = record {
-  sizes = length-set (replicate (length cores) Absent) boot (Admitted false) ∙ length-all (length cores);
-  few = few;
-  within = within;
-  plain_ctr = plain;
-  system = subst (λ (l : List Core). IsSystemOf o l (system_words o (core_at cores boot ∷ []))) (sym (boot_alone is_admitted cores boot within refl refl)) (is_system_alone o (core_at cores boot) fit);
+pub first_facts : (board : Board) → IsBoard board → Facts (first_world board)
+first_facts board is = record {
+  sizes = length-set (replicate (length board.cores) Absent) board.boot (Admitted false) ∙ length-all (length board.cores);
+  few = is.few;
+  within = is.within;
+  plain_ctr = is.plain_ctr;
+  system = subst (λ (l : List Core). IsSystemOf board.overrides l (system_words board.overrides (boot_core board ∷ [])))
+      (sym (boot_alone is_admitted board.cores board.boot is.within refl refl)) (is_system_alone board.overrides (boot_core board) is.fit);
   boot = here;
   states = fits;
   halted = record {
     by = λ halt e. absurd (let no : ⊥ = cc in no);
-    only = λ e n cause is. by n cause is (cases_eq n boot);
+    only = λ e n cause is. by n cause is (cases_eq n board.boot);
   };
   gathering = λ _. gathers;
   decided = λ e. absurd (let no : ⊥ = cc in no);
 } where
-  here : state_at (first_states (length cores) boot) boot ≡ Admitted false
-  here = state-here (replicate (length cores) Absent) boot (Admitted false) (omega (arith, length-all (length cores)))
+  first : List CoreState
+  first = first_states (length board.cores) board.boot
 
-  there : (n : ℕ) → (n ≡ boot → ⊥) → state_at (first_states (length cores) boot) n ≡ Absent
-  there n other = state-other (replicate (length cores) Absent) boot n (Admitted false) other ∙ all_absent (length cores) n
+  here : state_at (first_states (length board.cores) board.boot) board.boot ≡ Admitted false
+  here = state-here (replicate (length board.cores) Absent) board.boot (Admitted false) (omega (arith, is.within, length-all (length board.cores)))
 
-  by : (n : ℕ) (cause : Cause) → state_at (first_states (length cores) boot) n ≡ Panicked cause → (n ≡ boot) ⊎ (n ≡ boot → ⊥) → ⊥
-  by n cause is (inl at) = let bad : Admitted false ≡ Panicked cause = sym here ∙ ap (state_at (first_states (length cores) boot)) (sym at) ∙ is in cc
+  there : (n : ℕ) → (n ≡ board.boot → ⊥) → state_at (first_states (length board.cores) board.boot) n ≡ Absent
+  there n other = state-other (replicate (length board.cores) Absent) board.boot n (Admitted false) other ∙ all_absent (length board.cores) n
+
+  by : (n : ℕ) (cause : Cause) → state_at (first_states (length board.cores) board.boot) n ≡ Panicked cause → (n ≡ board.boot) ⊎ (n ≡ board.boot → ⊥) → ⊥
+  by n cause is (inl at) =
+      let bad : Admitted false ≡ Panicked cause = sym here ∙ ap (state_at (first_states (length board.cores) board.boot)) (sym at) ∙ is in cc
   by n cause is (inr other) = let bad : Absent ≡ Panicked cause = sym (there n other) ∙ is in cc
 
-  fits_in : (n : ℕ) (s : CoreState) → state_at (first_states (length cores) boot) n ≡ s
-      → IsStateOf false (early_cause o (core_at cores boot) (core_at cores n)) (late_cause o (core_at cores boot) (early_cores (first_world cores boot o)) (core_at cores n)) s
-      → StateFits (first_world cores boot o) n
+  fits_in : (n : ℕ) (s : CoreState) → state_at (first_states (length board.cores) board.boot) n ≡ s
+      → IsStateOf false (cause_at_check board n) (cause_at_verification board (early_cores board (first_states (length board.cores) board.boot)) n) s
+      → StateFits (first_world board) n
   fits_in n s is h =
-      subst (λ (t : CoreState). IsStateOf false (early_cause o (core_at cores boot) (core_at cores n))
-      (late_cause o (core_at cores boot) (early_cores (first_world cores boot o)) (core_at cores n)) t) (sym is) h
+      subst (λ (t : CoreState). IsStateOf false (cause_at_check board n)
+      (cause_at_verification board (early_cores board (first_states (length board.cores) board.boot)) n) t) (sym is) h
 
-  fits : (n : ℕ) → StateFits (first_world cores boot o) n
-  fits n = on (cases_eq boot n) where
-    on : (boot ≡ n) ⊎ (boot ≡ n → ⊥) → StateFits (first_world cores boot o) n
-    on (inl at) = subst (λ (k : ℕ). StateFits (first_world cores boot o) k) at
-        (fits_in boot (Admitted false) here (boot_fits _ _ (boot_has_no_cause o (core_at cores boot))))
+  fits : (n : ℕ) → StateFits (first_world board) n
+  fits n = on (cases_eq board.boot n) where
+    on : (board.boot ≡ n) ⊎ (board.boot ≡ n → ⊥) → StateFits (first_world board) n
+    on (inl at) = subst (λ (k : ℕ). StateFits (first_world board) k) at
+        (fits_in board.boot (Admitted false) here (boot_fits _ _ (boot_has_no_cause board)))
     on (inr other) = fits_in n Absent (there n (λ e. other (sym e))) (absent_fits false _ _)
 
-  gathers : IsGathering (first_world cores boot o)
+  gathers : IsGathering (first_world board)
   gathers = record {
-    noted = subst (λ (l : List Core). numbers 53 (λ n. is_local_scope n && has_capability o (core_at cores boot) (core_at cores boot) n)
-        ≡ numbers 53 (λ n. is_local_scope n && list_any (λ core. has_capability o (core_at cores boot) core n) l))
-        (sym (boot_alone shows cores boot within refl refl))
-        (numbers-same _ _ 53 (λ n _. ap (λ b. is_local_scope n && b) (or_none (has_capability o (core_at cores boot) (core_at cores boot) n))));
+    noted = subst (λ (l : List Core). numbers 53 (λ n. is_local_scope n && has_capability board (boot_core board) n)
+        ≡ numbers 53 (λ n. is_local_scope n && list_any (λ core. has_capability board core n) l))
+        (sym (boot_alone shows board.cores board.boot is.within refl refl))
+        (numbers-same _ _ 53 (λ n _. ap (λ b. is_local_scope n && b) (or_none (has_capability board (boot_core board) n))));
     enabled = refl;
     hwcaps = refl;
-    kept = λ q. subst (λ (l : List Core). has_length (core_at cores boot).lengths q ≡ list_all (λ core. has_length core.lengths q) l)
-        (sym (boot_alone is_early cores boot within refl refl)) (and_all (has_length (core_at cores boot).lengths q));
+    common_lengths = λ q. subst (λ (l : List Core). has_length (boot_core board).lengths q ≡ list_all (λ core. has_length core.lengths q) l)
+        (sym (boot_alone is_early board.cores board.boot is.within refl refl)) (and_all (has_length (boot_core board).lengths q));
     lengths = refl;
   }
 
-abbrev starting : List Core → ℕ → FieldOverrides → List ℕ → List CoreState → List Bool → List Bool → ℕ → World
-starting cores boot o system states noted enabled kept = record {
-  cores = cores;
-  boot = boot;
-  overrides = o;
+abbrev starting : Board → List ℕ → List CoreState → List Bool → List Bool → ℕ → World
+starting board system states noted enabled common = record {
+  board = board;
   system = system;
   states = states;
   halted = None;
@@ -165,27 +166,19 @@ starting cores boot o system states noted enabled kept = record {
   noted = noted;
   enabled = enabled;
   hwcaps = record { hwcap = 0; hwcap2 = 0 };
-  ctr = 0;
-  kept = kept;
+  final_ctr = 0;
+  common_lengths = common;
   lengths = 0;
 }
 
 -- a machine of these parts is the first one
-pub first_world-same : (cores : List Core) (boot : ℕ) (o : FieldOverrides) (system : List ℕ) (states : List CoreState) (noted enabled kept : ℕ)
-    → system ≡ system_words o (core_at cores boot ∷ []) → states ≡ first_states (length cores) boot
-    → numbers 53 (holds noted) ≡ numbers 53 (λ n. is_local_scope n && has_capability o (core_at cores boot) (core_at cores boot) n)
-    → numbers 53 (holds enabled) ≡ numbers 53 (λ n. is_boot_scope n && has_capability o (core_at cores boot) (core_at cores boot) n)
-    → kept ≡ (core_at cores boot).lengths
-    → starting cores boot o system states (numbers 53 (holds noted)) (numbers 53 (holds enabled)) kept ≡ first_world cores boot o
-first_world-same cores boot o system states noted enabled kept s t n e k =
-    ap (λ (x : List ℕ). starting cores boot o x states (numbers 53 (holds noted)) (numbers 53 (holds enabled)) kept) s
-    ∙ ap (λ (x : List CoreState). starting cores boot o (system_words o (core_at cores boot ∷ [])) x (numbers 53 (holds noted)) (numbers 53 (holds enabled)) kept) t
-    ∙ ap (λ (x : List Bool). starting cores boot o (system_words o (core_at cores boot ∷ [])) (first_states (length cores) boot) x (numbers 53 (holds enabled)) kept) n
-    ∙ ap (λ (x : List Bool). starting cores boot o (system_words o (core_at cores boot ∷ [])) (first_states (length cores) boot)
-    (numbers 53 (λ n. is_local_scope n && has_capability o (core_at cores boot) (core_at cores boot) n)) x kept) e
-    ∙ ap (λ (x : ℕ). starting cores boot o (system_words o (core_at cores boot ∷ [])) (first_states (length cores) boot)
-    (numbers 53 (λ n. is_local_scope n && has_capability o (core_at cores boot) (core_at cores boot) n))
-    (numbers 53 (λ n. is_boot_scope n && has_capability o (core_at cores boot) (core_at cores boot) n)) x) k
+pub first_world-same : (board : Board) (system : List ℕ) (states : List CoreState) (noted enabled common : ℕ)
+    → system ≡ system_words board.overrides (boot_core board ∷ []) → states ≡ first_states (length board.cores) board.boot
+    → numbers 53 (holds noted) ≡ numbers 53 (λ n. is_local_scope n && has_capability board (boot_core board) n)
+    → numbers 53 (holds enabled) ≡ numbers 53 (λ n. is_boot_scope n && has_capability board (boot_core board) n)
+    → common ≡ (boot_core board).lengths
+    → starting board system states (numbers 53 (holds noted)) (numbers 53 (holds enabled)) common ≡ first_world board
+first_world-same board system states noted enabled common s t n e k = rw (s, t, n, e, k)
 
 -- what was put into the empty set
 pub own_alone : (own : ℕ → Bool) (empty set : ℕ) → ((n : ℕ) → holds empty n ≡ false) → ((n : ℕ) → n < 53 → holds set n ≡ (holds empty n || own n))

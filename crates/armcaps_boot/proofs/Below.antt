@@ -6,7 +6,8 @@ use Rattle.std.proofs.lemmas.Option.{slice_get_past}
 use Rattle.std.specs.List.{list_any}
 use Rattle.armcaps_enc.specs.declared.register.SysReg.TheVariants.{CtrEl0}
 use Rattle.armcaps_tables.specs.Core.{Core, core_word, word_at}
-use Rattle.armcaps_tables.specs.Overriding.{FieldOverrides, override_of, AllFit}
+use Rattle.armcaps_tables.specs.Overriding.{FieldOverrides, AllFit}
+use Rattle.armcaps_board.specs.Board.{IsCtrPlain}
 use Rattle.armcaps_sanit.specs.System.{IsSystemOf, system_words}
 use Rattle.armcaps_caps.specs.Capabilities.{core_has_capability, is_boot_scope, is_local_scope, is_system_scope, is_permitted, is_optional, is_panic, is_erratum_class, row_says}
 use Rattle.armcaps_caps.specs.Class.{in_system_scope, works_around}
@@ -19,7 +20,7 @@ use Rattle.armcaps_caps.proofs.CacheType.{cache_type_compares}
 system_of : (o : FieldOverrides) (before after : List Core) (core : Core) → AllFit o → IsSystemOf o (before ++ core ∷ after) (system_words o (before ++ core ∷ after))
 system_of o before after core fit = record { fit = fit; some = omega (arith, length-append before (core ∷ after)); words = refl }
 
-pub cache_type_stays : (o : FieldOverrides) (boot core : Core) (before after : List Core) → AllFit o → ((index : ℕ) → override_of o CtrEl0 index ≡ None)
+pub cache_type_stays : (o : FieldOverrides) (boot core : Core) (before after : List Core) → AllFit o → IsCtrPlain o
     → list_any (λ c. core_has_capability o boot (core_word boot CtrEl0) c 42) (before ++ boot ∷ after) ≡ false
     → core_has_capability o boot (word_at (system_words o (before ++ boot ∷ after)) CtrEl0) core 42 ≡ core_has_capability o boot (core_word boot CtrEl0) core 42
 cache_type_stays o boot core before after fit plain none =

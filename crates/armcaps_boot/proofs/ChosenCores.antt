@@ -2,8 +2,8 @@
 use Rattle.std.proofs.Common.{◌≡◌, ◌<◌, ◌⊎◌, inl, inr, ℕ, zero, suc, Bool, true, false, cond, ◌&&◌, ◌||◌, List, [], ◌∷◌, ◌++◌, length, refl, sym, ◌∙◌, ap, arith}
 use Rattle.std.specs.List.{list_any, list_all}
 use Rattle.armcaps_tables.specs.Core.{Core}
-use Rattle.armcaps_boot.specs.Choosing.{chosen}
 use Rattle.armcaps_board.specs.Board.{core_at}
+use Rattle.armcaps_boot.specs.Choosing.{chosen}
 
 pub chosen-same : (p q : ℕ → Bool) (cores : List Core) → ((k : ℕ) → p k ≡ q k) → chosen p cores ≡ chosen q cores
 chosen-same p q [] same = refl

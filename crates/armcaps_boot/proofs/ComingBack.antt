@@ -12,15 +12,16 @@ use Rattle.armcaps_boot.specs.declared.core_state.CoreState.TheVariants.{Absent,
 use Rattle.armcaps_board.specs.declared.event.Event.{Event}
 use Rattle.armcaps_board.specs.declared.event.Event.TheVariants.{Check, Local, Store, Offline, Finalise}
 use Rattle.armcaps_boot.specs.declared.reply.Reply.TheVariants.{Done}
-use Rattle.armcaps_boot.specs.Answers.{Answer, answer_of, live_answer, numbered, check_answer, local_answer, store_answer, cause_at_local}
-use Rattle.armcaps_boot.specs.Causes.{has_capability, has_length, late_cause}
-use Rattle.armcaps_boot.specs.Changes.{world_after, noted_with}
+use Rattle.armcaps_board.specs.Board.{core_at}
+use Rattle.armcaps_boot.specs.Answers.{Answer, answer_of, cause_at_local, check_answer, live_answer, local_answer, numbered, store_answer}
+use Rattle.armcaps_boot.specs.Causes.{cause_at_verification, has_capability, has_length}
+use Rattle.armcaps_boot.specs.Changes.{noted_with, world_after}
+use Rattle.armcaps_boot.specs.Choosing.{chosen}
 use Rattle.armcaps_boot.specs.Facts.{Facts, noted_cores}
 use Rattle.armcaps_boot.specs.Numbers.{is_in}
-use Rattle.armcaps_boot.specs.Returning.{comes_back, is_gone, is_checked, KeepsSystem}
-use Rattle.armcaps_boot.specs.States.{is_admitted, is_early, is_updated, has_passed}
-use Rattle.armcaps_board.specs.Board.{core_at}
-use Rattle.armcaps_boot.specs.World.{World, boot_of, state_at, early_cores}
+use Rattle.armcaps_boot.specs.Returning.{KeepsSystem, comes_back, is_checked, is_gone}
+use Rattle.armcaps_boot.specs.States.{has_passed, is_admitted, is_early, is_updated}
+use Rattle.armcaps_boot.specs.World.{World, early_cores, state_at}
 use Rattle.armcaps_boot.proofs.ChosenCores.{Among, chosen-among, any-among, all-among}
 use Rattle.armcaps_boot.proofs.CoreSteps.{shows}
 use Rattle.armcaps_boot.proofs.Finalising.{admitted_within, none_late}
@@ -28,14 +29,14 @@ use Rattle.armcaps_boot.proofs.FirstNumbers.{is_in-numbers, numbers-same}
 use Rattle.armcaps_boot.proofs.Gathered.{has_length-both}
 
 -- such a core has a number, and it isn't the boot core's
-numbered_back : (w : World) (k : ℕ) (answer : Answer) → Facts w → k < length w.cores → (k ≡ w.boot → ⊥) → numbered w k answer ≡ answer
-numbered_back w k answer f within other = by (nat_lt k (length w.cores)) (k == w.boot) refl refl where
-  by : (in_range boot : Bool) → nat_lt k (length w.cores) ≡ in_range → (k == w.boot) ≡ boot → numbered w k answer ≡ answer
-  by false boot a b = absurd (let bad : true ≡ false = sym ((Decides-ltb k (length w.cores)).1 within) ∙ a in let no : ⊥ = cc in no)
-  by true true a b = absurd (other ((Decides-eqb k w.boot).0 b))
+numbered_back : (w : World) (k : ℕ) (answer : Answer) → Facts w → k < length w.board.cores → (k ≡ w.board.boot → ⊥) → numbered w k answer ≡ answer
+numbered_back w k answer f within other = by (nat_lt k (length w.board.cores)) (k == w.board.boot) refl refl where
+  by : (in_range boot : Bool) → nat_lt k (length w.board.cores) ≡ in_range → (k == w.board.boot) ≡ boot → numbered w k answer ≡ answer
+  by false boot a b = absurd (let bad : true ≡ false = sym ((Decides-ltb k (length w.board.cores)).1 within) ∙ a in let no : ⊥ = cc in no)
+  by true true a b = absurd (other ((Decides-eqb k w.board.boot).0 b))
   by true false a b = rw (a, b)
 
-not_boot : (w : World) → Facts w → (test : CoreState → Bool) → test (Admitted false) ≡ false → (k : ℕ) → test (state_at w.states k) ≡ true → k ≡ w.boot → ⊥
+not_boot : (w : World) → Facts w → (test : CoreState → Bool) → test (Admitted false) ≡ false → (k : ℕ) → test (state_at w.states k) ≡ true → k ≡ w.board.boot → ⊥
 not_boot w f test boot k is here =
     let bad : true ≡ false = sym is ∙ ap (λ (n : ℕ). test (state_at w.states n)) here ∙ ap test f.boot ∙ boot in let no : ⊥ = cc in no
 
@@ -81,10 +82,10 @@ updated_store (Admitted late) e = absurd (let no : ⊥ = cc in no)
 updated_store (IsParked cause) e = absurd (let no : ⊥ = cc in no)
 updated_store (HasPanicked cause) e = absurd (let no : ⊥ = cc in no)
 
--- a core that was ever admitted has no early cause, and after finalisation no late cause
+-- a core that was ever admitted has no cause at its local step
 pub no_cause_back : (w : World) → Facts w → (k : ℕ) → is_admitted (state_at w.states k) ≡ true → cause_at_local w k ≡ None
 no_cause_back w f k admitted = by w.final refl where
-  by : (final : Bool) → w.final ≡ final → cond final (late_cause w.overrides (boot_of w) (early_cores w) (core_at w.cores k)) None ≡ None
+  by : (final : Bool) → w.final ≡ final → cond final (cause_at_verification w.board (early_cores w.board w.states) k) None ≡ None
   by true final = (f.states k).verified final admitted
   by false final = refl
 
@@ -105,20 +106,20 @@ noted_already false true true all is shown = let on = shown refl in let bad : fa
 noted_back : (w : World) (f : Facts w) (k : ℕ) → w.final ≡ false → is_admitted (state_at w.states k) ≡ true → noted_with w k ≡ w.noted
 noted_back w f k final admitted =
     numbers-same _ _ 53 (λ n within.
-    noted_already (is_in w.noted n) (is_local_scope n) (has_capability w.overrides (boot_of w) (core_at w.cores k) n)
-    (list_any (λ core. has_capability w.overrides (boot_of w) core n) (noted_cores w)) (listed n within)
-    (λ has. any-among (λ core. has_capability w.overrides (boot_of w) core n) (noted_cores w) (core_at w.cores k) among has)
+    noted_already (is_in w.noted n) (is_local_scope n) (has_capability w.board (core_at w.board.cores k) n)
+    (list_any (λ core. has_capability w.board core n) (noted_cores w)) (listed n within)
+    (λ has. any-among (λ core. has_capability w.board core n) (noted_cores w) (core_at w.board.cores k) among has)
     ∙ listed n within)
     ∙ sym (f.gathering final).noted
   where
-    listed : (n : ℕ) → n < 53 → is_in w.noted n ≡ (is_local_scope n && list_any (λ core. has_capability w.overrides (boot_of w) core n) (noted_cores w))
+    listed : (n : ℕ) → n < 53 → is_in w.noted n ≡ (is_local_scope n && list_any (λ core. has_capability w.board core n) (noted_cores w))
     listed n within =
         ap (λ (s : List Bool). is_in s n) (f.gathering final).noted
-        ∙ is_in-numbers (λ m. is_local_scope m && list_any (λ core. has_capability w.overrides (boot_of w) core m) (noted_cores w)) 53 n within
+        ∙ is_in-numbers (λ m. is_local_scope m && list_any (λ core. has_capability w.board core m) (noted_cores w)) 53 n within
 
-    among : Among (noted_cores w) (core_at w.cores k)
+    among : Among (noted_cores w) (core_at w.board.cores k)
     among =
-        chosen-among (λ n. shows (state_at w.states n)) w.cores k (admitted_within w f is_admitted refl k admitted)
+        chosen-among (λ n. shows (state_at w.states n)) w.board.cores k (admitted_within w f is_admitted refl k admitted)
         (early_shows (is_early (state_at w.states k)) (is_updated (state_at w.states k)) (sym (none_late w f final k) ∙ admitted))
 
 and_already : (own all : Bool) → (all ≡ true → own ≡ true) → (own && all) ≡ all
@@ -128,19 +129,19 @@ and_already false false h = refl
 
 -- its lengths are kept already
 kept_back : (w : World) (f : Facts w) (k : ℕ) → w.final ≡ false → is_admitted (state_at w.states k) ≡ true → (q : ℕ)
-    → has_length (bit_and w.kept (core_at w.cores k).lengths) q ≡ has_length w.kept q
+    → has_length (bit_and w.common_lengths (core_at w.board.cores k).lengths) q ≡ has_length w.common_lengths q
 kept_back w f k final admitted q =
-    has_length-both w.kept (core_at w.cores k).lengths q
-    ∙ and_already (has_length (core_at w.cores k).lengths q) (has_length w.kept q)
-    (λ kept. all-among (λ core. has_length core.lengths q) (early_cores w) (core_at w.cores k)
-    (chosen-among (λ n. is_early (state_at w.states n)) w.cores k (admitted_within w f is_admitted refl k admitted) (sym (none_late w f final k) ∙ admitted))
-    (sym ((f.gathering final).kept q) ∙ kept))
+    has_length-both w.common_lengths (core_at w.board.cores k).lengths q
+    ∙ and_already (has_length (core_at w.board.cores k).lengths q) (has_length w.common_lengths q)
+    (λ kept. all-among (λ core. has_length core.lengths q) (early_cores w.board w.states) (core_at w.board.cores k)
+    (chosen-among (λ n. is_early (state_at w.states n)) w.board.cores k (admitted_within w f is_admitted refl k admitted) (sym (none_late w f final k) ∙ admitted))
+    (sym ((f.gathering final).common_lengths q) ∙ kept))
 
 -- its registers are merged already
-system_back : (w : World) (f : Facts w) (k : ℕ) → is_admitted (state_at w.states k) ≡ true → merged_words w.system (core_at w.cores k) ≡ w.system
+system_back : (w : World) (f : Facts w) (k : ℕ) → is_admitted (state_at w.states k) ≡ true → merged_words w.system (core_at w.board.cores k) ≡ w.system
 system_back w f k admitted =
-    let among = chosen-among (λ n. is_admitted (state_at w.states n)) w.cores k (admitted_within w f is_admitted refl k admitted) admitted in
-    is_system_again w.overrides among.before among.after (core_at w.cores k) w.system (subst (λ (l : List Core). IsSystemOf w.overrides l w.system) among.is f.system)
+    let among = chosen-among (λ n. is_admitted (state_at w.states n)) w.board.cores k (admitted_within w f is_admitted refl k admitted) admitted in
+    is_system_again w.board.overrides among.before among.after (core_at w.board.cores k) w.system (subst (λ (l : List Core). IsSystemOf w.board.overrides l w.system) among.is f.system)
 
 pub record ComesBack (w : World) (e : Event) : Type 0 where
   pub done : answer_of w e ≡ Ok Done
@@ -153,7 +154,7 @@ coming_back w (Check k) f running back =
       done = answered w (Check k) (Ok Done) running
           (numbered_back w k _ f (admitted_within w f is_gone refl k back) (not_boot w f is_gone refl k back)
           ∙ ap (λ cause. check_answer cause (state_at w.states k)) ((f.states k).passed passed.0) ∙ gone_checked (state_at w.states k) back);
-      keeps = record { system = refl; noted = refl; enabled = refl; hwcaps = refl; ctr = refl; kept = λ q. refl; lengths = refl };
+      keeps = record { system = refl; noted = refl; enabled = refl; hwcaps = refl; final_ctr = refl; common_lengths = λ q. refl; lengths = refl };
     }
 coming_back w (Local k) f running back =
     let is = both (is_checked (state_at w.states k)) (is_admitted (state_at w.states k)) back in
@@ -161,7 +162,7 @@ coming_back w (Local k) f running back =
       done = answered w (Local k) (Ok Done) running
           (numbered_back w k _ f (admitted_within w f is_checked refl k is.0) (not_boot w f is_checked refl k is.0)
           ∙ ap (λ cause. local_answer cause (state_at w.states k)) (no_cause_back w f k is.1) ∙ checked_local (state_at w.states k) is.0);
-      keeps = record { system = refl; noted = noted w.final refl is.1; enabled = refl; hwcaps = refl; ctr = refl; kept = λ q. refl; lengths = refl };
+      keeps = record { system = refl; noted = noted w.final refl is.1; enabled = refl; hwcaps = refl; final_ctr = refl; common_lengths = λ q. refl; lengths = refl };
     }
   where
     noted : (final : Bool) → w.final ≡ final → is_admitted (state_at w.states k) ≡ true → cond final w.noted (noted_with w k) ≡ w.noted
@@ -172,11 +173,11 @@ coming_back w (Store k) f running back =
     record {
       done = answered w (Store k) (Ok Done) running
           (numbered_back w k _ f (admitted_within w f is_updated refl k is.0) (not_boot w f is_updated refl k is.0) ∙ updated_store (state_at w.states k) is.0);
-      keeps = record { system = system_back w f k is.1; noted = refl; enabled = refl; hwcaps = refl; ctr = refl; kept = kept w.final refl is.1; lengths = refl };
+      keeps = record { system = system_back w f k is.1; noted = refl; enabled = refl; hwcaps = refl; final_ctr = refl; common_lengths = kept w.final refl is.1; lengths = refl };
     }
   where
     kept : (final : Bool) → w.final ≡ final → is_admitted (state_at w.states k) ≡ true → (q : ℕ)
-        → has_length (cond final w.kept (bit_and w.kept (core_at w.cores k).lengths)) q ≡ has_length w.kept q
+        → has_length (cond final w.common_lengths (bit_and w.common_lengths (core_at w.board.cores k).lengths)) q ≡ has_length w.common_lengths q
     kept true final admitted q = refl
     kept false final admitted q = kept_back w f k final admitted q
 coming_back w (Offline k) f running back = absurd (let no : ⊥ = cc in no)

@@ -12,14 +12,14 @@ use Rattle.armcaps_boot.specs.declared.core_state.CoreState.TheVariants.{Checked
 use Rattle.armcaps_boot.specs.declared.past.Past.{Past}
 use Rattle.armcaps_boot.specs.declared.past.Past.TheVariants.{Never, Early, Late}
 use Rattle.armcaps_boot.specs.declared.halt.Halt.{Halt}
-use Rattle.armcaps_boot.specs.Causes.{has_capability, has_length, early_cause, late_cause, stops_machine}
-use Rattle.armcaps_boot.specs.Changes.{checked_world, updated_world, stored_world, left_world, noted_with, admitted_after, gone_after}
-use Rattle.armcaps_boot.specs.Choosing.{chosen}
-use Rattle.armcaps_boot.specs.Facts.{Facts, IsStateOf, IsHalt, IsGathering, IsParkedFor, noted_cores}
-use Rattle.armcaps_boot.specs.Numbers.{numbers}
-use Rattle.armcaps_boot.specs.States.{is_admitted, is_early, is_late, is_updated, has_passed, is_early_past, is_late_past, is_admitted_past, past_of, past_admitted}
 use Rattle.armcaps_board.specs.Board.{core_at}
-use Rattle.armcaps_boot.specs.World.{World, state_at, boot_of, admitted_cores, early_cores}
+use Rattle.armcaps_boot.specs.Causes.{cause_at_check, cause_at_verification, has_capability, has_length, stops_machine}
+use Rattle.armcaps_boot.specs.Changes.{admitted_after, checked_world, gone_after, left_world, noted_with, stored_world, updated_world}
+use Rattle.armcaps_boot.specs.Choosing.{chosen}
+use Rattle.armcaps_boot.specs.Facts.{Facts, IsGathering, IsHalt, IsParkedFor, IsStateOf, noted_cores}
+use Rattle.armcaps_boot.specs.Numbers.{numbers}
+use Rattle.armcaps_boot.specs.States.{has_passed, is_admitted, is_admitted_past, is_early, is_early_past, is_late, is_late_past, is_updated, past_admitted, past_of}
+use Rattle.armcaps_boot.specs.World.{World, admitted_cores, early_cores, state_at}
 use Rattle.armcaps_boot.proofs.ChosenCores.{chosen-same, chosen-added, Added}
 use Rattle.armcaps_boot.proofs.Gathered.{noted-added, kept-added, system-added}
 use Rattle.armcaps_boot.proofs.Moves.{moved, facts_moved, test-same, state-other, state-here}
@@ -28,19 +28,13 @@ use Rattle.armcaps_boot.proofs.Moves.{moved, facts_moved, test-same, state-other
 abbrev pub shows : CoreState → Bool
 shows state = is_early state || is_updated state
 
-abbrev pub early_of : World → ℕ → Option Cause
-early_of w k = early_cause w.overrides (boot_of w) (core_at w.cores k)
-
-abbrev pub late_of : World → ℕ → Option Cause
-late_of w k = late_cause w.overrides (boot_of w) (early_cores w) (core_at w.cores k)
-
 -- a step that leaves the core where it was among the early, the admitted and the updated ones
-pub facts_kept : (w : World) (f : Facts w) (k : ℕ) (state : CoreState) (halted : Option Halt) → k < length w.cores → (k ≡ w.boot → ⊥)
+pub facts_kept : (w : World) (f : Facts w) (k : ℕ) (state : CoreState) (halted : Option Halt) → k < length w.board.cores → (k ≡ w.board.boot → ⊥)
     → is_early (state_at w.states k) ≡ is_early state → is_admitted (state_at w.states k) ≡ is_admitted state → shows (state_at w.states k) ≡ shows state
-    → IsStateOf w.final (early_of w k) (late_of w k) state → IsHalt halted (set w.states k state)
-    → Facts (moved w k state halted w.system w.noted w.kept)
+    → IsStateOf w.final (cause_at_check w.board k) (cause_at_verification w.board (early_cores w.board w.states) k) state → IsHalt halted (set w.states k state)
+    → Facts (moved w k state halted w.system w.noted w.common_lengths)
 facts_kept w f k state halted within not_boot early admitted shown fits halts =
-    facts_moved w f k state halted w.system w.noted w.kept within not_boot (λ _. early) stands fits halts gathers
+    facts_moved w f k state halted w.system w.noted w.common_lengths within not_boot (λ _. early) stands fits halts gathers
   where
     inside : k < length w.states
     inside = omega (arith, f.sizes)
@@ -49,24 +43,24 @@ facts_kept w f k state halted within not_boot early admitted shown fits halts =
         → (j : ℕ) → test (state_at w.states j) ≡ test (state_at (set w.states k state) j)
     same test e = test-same test w.states k state inside e
 
-    stands : IsSystemOf w.overrides (admitted_cores (moved w k state halted w.system w.noted w.kept)) w.system
+    stands : IsSystemOf w.board.overrides (admitted_cores w.board (set w.states k state)) w.system
     stands =
-        subst (λ (l : List Core). IsSystemOf w.overrides l w.system)
-        (chosen-same (λ n. is_admitted (state_at w.states n)) (λ n. is_admitted (state_at (set w.states k state) n)) w.cores (same is_admitted admitted)) f.system
+        subst (λ (l : List Core). IsSystemOf w.board.overrides l w.system)
+        (chosen-same (λ n. is_admitted (state_at w.states n)) (λ n. is_admitted (state_at (set w.states k state) n)) w.board.cores (same is_admitted admitted)) f.system
 
-    gathers : w.final ≡ false → IsGathering (moved w k state halted w.system w.noted w.kept)
+    gathers : w.final ≡ false → IsGathering (moved w k state halted w.system w.noted w.common_lengths)
     gathers final = let g = f.gathering final in record {
-      noted = subst (λ (l : List Core). w.noted ≡ numbers 53 (λ n. is_local_scope n && list_any (λ core. has_capability w.overrides (boot_of w) core n) l))
-          (chosen-same (λ n. shows (state_at w.states n)) (λ n. shows (state_at (set w.states k state) n)) w.cores (same shows shown)) g.noted;
+      noted = subst (λ (l : List Core). w.noted ≡ numbers 53 (λ n. is_local_scope n && list_any (λ core. has_capability w.board core n) l))
+          (chosen-same (λ n. shows (state_at w.states n)) (λ n. shows (state_at (set w.states k state) n)) w.board.cores (same shows shown)) g.noted;
       enabled = g.enabled;
       hwcaps = g.hwcaps;
-      kept = λ q. subst (λ (l : List Core). has_length w.kept q ≡ list_all (λ core. has_length core.lengths q) l)
-          (chosen-same (λ n. is_early (state_at w.states n)) (λ n. is_early (state_at (set w.states k state) n)) w.cores (same is_early early)) (g.kept q);
+      common_lengths = λ q. subst (λ (l : List Core). has_length w.common_lengths q ≡ list_all (λ core. has_length core.lengths q) l)
+          (chosen-same (λ n. is_early (state_at w.states n)) (λ n. is_early (state_at (set w.states k state) n)) w.board.cores (same is_early early)) (g.common_lengths q);
       lengths = g.lengths;
     }
 
 -- nobody has stopped the machine, as before
-pub still_running : (w : World) → Facts w → (k : ℕ) (state : CoreState) → k < length w.cores → w.halted ≡ None
+pub still_running : (w : World) → Facts w → (k : ℕ) (state : CoreState) → k < length w.board.cores → w.halted ≡ None
     → ((cause : Cause) → state ≡ Panicked cause → ⊥) → IsHalt w.halted (set w.states k state)
 still_running w f k state within none other = record {
   by = λ halt is. absurd (let bad : None ≡ Some halt = sym none ∙ is in let no : ⊥ = cc in no);
@@ -77,7 +71,7 @@ still_running w f k state within none other = record {
       other cause (sym (state-here w.states k state (omega (arith, f.sizes))) ∙ ap (state_at (set w.states k state)) (sym here) ∙ is)
   by e n cause is (inr elsewhere) = f.halted.only e n cause (sym (state-other w.states k n state elsewhere) ∙ is)
 
-pub now_stopped : (w : World) → Facts w → (k : ℕ) (cause : Cause) → k < length w.cores
+pub now_stopped : (w : World) → Facts w → (k : ℕ) (cause : Cause) → k < length w.board.cores
     → IsHalt (Some (record { core = k; cause = cause })) (set w.states k (Panicked cause))
 now_stopped w f k cause within = record { by = by; only = λ e. absurd (let no : ⊥ = cc in no) } where
   by : (halt : Halt) → Some (record { core = k; cause = cause }) ≡ Some halt → state_at (set w.states k (Panicked cause)) halt.core ≡ Panicked halt.cause
@@ -87,8 +81,8 @@ now_stopped w f k cause within = record { by = by; only = λ e. absurd (let no :
       (state-here w.states k (Panicked cause) (omega (arith, f.sizes)))
 
 -- a check that is done
-pub facts_checked : (w : World) (f : Facts w) (k : ℕ) → k < length w.cores → (k ≡ w.boot → ⊥) → w.halted ≡ None
-    → is_updated (state_at w.states k) ≡ false → early_of w k ≡ None → Facts (checked_world w k)
+pub facts_checked : (w : World) (f : Facts w) (k : ℕ) → k < length w.board.cores → (k ≡ w.board.boot → ⊥) → w.halted ≡ None
+    → is_updated (state_at w.states k) ≡ false → cause_at_check w.board k ≡ None → Facts (checked_world w k)
 facts_checked w f k within not_boot running fresh none =
     facts_kept w f k (Checked (past_of (state_at w.states k))) w.halted within not_boot refl refl
     (ap (λ b. is_early (state_at w.states k) || b) fresh)
@@ -123,7 +117,7 @@ gone_not_parked Early cause e = cc
 gone_not_parked Late cause e = cc
 
 -- a core that was admitted and goes
-pub facts_left : (w : World) (f : Facts w) (k : ℕ) (late : Bool) → k < length w.cores → (k ≡ w.boot → ⊥) → w.halted ≡ None
+pub facts_left : (w : World) (f : Facts w) (k : ℕ) (late : Bool) → k < length w.board.cores → (k ≡ w.board.boot → ⊥) → w.halted ≡ None
     → state_at w.states k ≡ Admitted late → Facts (left_world w k)
 facts_left w f k late within not_boot running is =
     facts_kept w f k gone w.halted within not_boot
@@ -149,12 +143,12 @@ facts_left w f k late within not_boot running is =
     past_same test = let e = ap past_of is in rw e (gone_same test late)
 
 -- a core that is parked, or stops the machine, was never admitted
-pub facts_out : (w : World) (f : Facts w) (k : ℕ) (state : CoreState) (halted : Option Halt) → k < length w.cores → (k ≡ w.boot → ⊥)
+pub facts_out : (w : World) (f : Facts w) (k : ℕ) (state : CoreState) (halted : Option Halt) → k < length w.board.cores → (k ≡ w.board.boot → ⊥)
     → past_of (state_at w.states k) ≡ Never → is_updated (state_at w.states k) ≡ false
     → past_of state ≡ Never → is_updated state ≡ false → has_passed state ≡ false
-    → ((cause : Cause) → state ≡ Parked cause → IsParkedFor w.final (early_of w k) (late_of w k) cause)
-    → ((cause : Cause) → state ≡ Panicked cause → (early_of w k ≡ Some cause) × (stops_machine cause ≡ true))
-    → IsHalt halted (set w.states k state) → Facts (moved w k state halted w.system w.noted w.kept)
+    → ((cause : Cause) → state ≡ Parked cause → IsParkedFor w.final (cause_at_check w.board k) (cause_at_verification w.board (early_cores w.board w.states) k) cause)
+    → ((cause : Cause) → state ≡ Panicked cause → (cause_at_check w.board k ≡ Some cause) × (stops_machine cause ≡ true))
+    → IsHalt halted (set w.states k state) → Facts (moved w k state halted w.system w.noted w.common_lengths)
 facts_out w f k state halted within not_boot never fresh past updated passed parked panicked halts =
     facts_kept w f k state halted within not_boot
     (ap is_early_past never ∙ sym (ap is_early_past past)) (ap is_admitted_past never ∙ sym (ap is_admitted_past past))
@@ -170,10 +164,10 @@ facts_out w f k state halted within not_boot never fresh past updated passed par
     halts
 
 -- a core whose capabilities are noted or verified
-pub facts_updated : (w : World) (f : Facts w) (k : ℕ) (past : Past) → k < length w.cores → (k ≡ w.boot → ⊥) → w.halted ≡ None
-    → state_at w.states k ≡ Checked past → (w.final ≡ true → late_of w k ≡ None) → Facts (updated_world w k)
+pub facts_updated : (w : World) (f : Facts w) (k : ℕ) (past : Past) → k < length w.board.cores → (k ≡ w.board.boot → ⊥) → w.halted ≡ None
+    → state_at w.states k ≡ Checked past → (w.final ≡ true → cause_at_verification w.board (early_cores w.board w.states) k ≡ None) → Facts (updated_world w k)
 facts_updated w f k past within not_boot running is verified =
-    facts_moved w f k (Updated (past_of (state_at w.states k))) w.halted w.system (cond w.final w.noted (noted_with w k)) w.kept within not_boot
+    facts_moved w f k (Updated (past_of (state_at w.states k))) w.halted w.system (cond w.final w.noted (noted_with w k)) w.common_lengths within not_boot
     (λ _. refl) stands
     (record {
       passed = λ _. (f.states k).passed (ap has_passed is);
@@ -188,31 +182,31 @@ facts_updated w f k past within not_boot running is verified =
     inside : k < length w.states
     inside = omega (arith, f.sizes)
 
-    stands : IsSystemOf w.overrides (chosen (λ n. is_admitted (state_at (set w.states k (Updated (past_of (state_at w.states k)))) n)) w.cores) w.system
+    stands : IsSystemOf w.board.overrides (chosen (λ n. is_admitted (state_at (set w.states k (Updated (past_of (state_at w.states k)))) n)) w.board.cores) w.system
     stands =
-        subst (λ (l : List Core). IsSystemOf w.overrides l w.system)
-        (chosen-same (λ n. is_admitted (state_at w.states n)) (λ n. is_admitted (state_at (set w.states k (Updated (past_of (state_at w.states k)))) n)) w.cores
+        subst (λ (l : List Core). IsSystemOf w.board.overrides l w.system)
+        (chosen-same (λ n. is_admitted (state_at w.states n)) (λ n. is_admitted (state_at (set w.states k (Updated (past_of (state_at w.states k)))) n)) w.board.cores
         (test-same is_admitted w.states k (Updated (past_of (state_at w.states k))) inside refl)) f.system
 
     or_true : (b : Bool) → (b || true) ≡ true
     or_true true = refl
     or_true false = refl
 
-    added : Added (noted_cores w) (chosen (λ n. shows (state_at (set w.states k (Updated (past_of (state_at w.states k)))) n)) w.cores) (core_at w.cores k)
+    added : Added (noted_cores w) (chosen (λ n. shows (state_at (set w.states k (Updated (past_of (state_at w.states k)))) n)) w.board.cores) (core_at w.board.cores k)
     added =
-        chosen-added (λ n. shows (state_at w.states n)) (λ n. shows (state_at (set w.states k (Updated (past_of (state_at w.states k)))) n)) w.cores k within
+        chosen-added (λ n. shows (state_at w.states n)) (λ n. shows (state_at (set w.states k (Updated (past_of (state_at w.states k)))) n)) w.board.cores k within
         (ap shows (state-here w.states k (Updated (past_of (state_at w.states k))) inside) ∙ or_true (is_early (state_at w.states k)))
         (λ j ne. ap shows (sym (state-other w.states k j (Updated (past_of (state_at w.states k))) ne)))
 
-    gathers : w.final ≡ false → IsGathering (moved w k (Updated (past_of (state_at w.states k))) w.halted w.system (cond w.final w.noted (noted_with w k)) w.kept)
+    gathers : w.final ≡ false → IsGathering (moved w k (Updated (past_of (state_at w.states k))) w.halted w.system (cond w.final w.noted (noted_with w k)) w.common_lengths)
     gathers final = let g = f.gathering final in record {
       noted = ap (λ b. cond b w.noted (noted_with w k)) final
-          ∙ noted-added w.overrides (boot_of w) (core_at w.cores k) (noted_cores w) _ w.noted added g.noted;
+          ∙ noted-added w.board (core_at w.board.cores k) (noted_cores w) _ w.noted added g.noted;
       enabled = g.enabled;
       hwcaps = g.hwcaps;
-      kept = λ q. subst (λ (l : List Core). has_length w.kept q ≡ list_all (λ core. has_length core.lengths q) l)
-          (chosen-same (λ n. is_early (state_at w.states n)) (λ n. is_early (state_at (set w.states k (Updated (past_of (state_at w.states k)))) n)) w.cores
-          (test-same is_early w.states k (Updated (past_of (state_at w.states k))) inside refl)) (g.kept q);
+      common_lengths = λ q. subst (λ (l : List Core). has_length w.common_lengths q ≡ list_all (λ core. has_length core.lengths q) l)
+          (chosen-same (λ n. is_early (state_at w.states n)) (λ n. is_early (state_at (set w.states k (Updated (past_of (state_at w.states k)))) n)) w.board.cores
+          (test-same is_early w.states k (Updated (past_of (state_at w.states k))) inside refl)) (g.common_lengths q);
       lengths = g.lengths;
     }
 
@@ -246,10 +240,10 @@ admitted_else final Early = (refl, λ cause e. cc, λ cause e. cc)
 admitted_else final Late = (refl, λ cause e. cc, λ cause e. cc)
 
 -- a core that is admitted
-pub facts_stored : (w : World) (f : Facts w) (k : ℕ) (past : Past) → k < length w.cores → (k ≡ w.boot → ⊥) → w.halted ≡ None
+pub facts_stored : (w : World) (f : Facts w) (k : ℕ) (past : Past) → k < length w.board.cores → (k ≡ w.board.boot → ⊥) → w.halted ≡ None
     → state_at w.states k ≡ Updated past → Facts (stored_world w k)
 facts_stored w f k past within not_boot running is =
-    facts_moved w f k state w.halted (merged_words w.system (core_at w.cores k)) w.noted (cond w.final w.kept (bit_and w.kept (core_at w.cores k).lengths)) within not_boot
+    facts_moved w f k state w.halted (merged_words w.system (core_at w.board.cores k)) w.noted (cond w.final w.common_lengths (bit_and w.common_lengths (core_at w.board.cores k).lengths)) within not_boot
     (λ final. admitted_final w.final (past_of (state_at w.states k)) final) stands
     (record {
       passed = λ _. (f.states k).passed (ap has_passed is);
@@ -268,15 +262,15 @@ facts_stored w f k past within not_boot running is =
     state = admitted_after w.final (past_of (state_at w.states k))
 
     added : (test : CoreState → Bool) → test (admitted_after w.final (past_of (state_at w.states k))) ≡ true
-        → Added (chosen (λ n. test (state_at w.states n)) w.cores) (chosen (λ n. test (state_at (set w.states k (admitted_after w.final (past_of (state_at w.states k)))) n)) w.cores) (core_at w.cores k)
+        → Added (chosen (λ n. test (state_at w.states n)) w.board.cores) (chosen (λ n. test (state_at (set w.states k (admitted_after w.final (past_of (state_at w.states k)))) n)) w.board.cores) (core_at w.board.cores k)
     added test e =
-        chosen-added (λ n. test (state_at w.states n)) (λ n. test (state_at (set w.states k (admitted_after w.final (past_of (state_at w.states k)))) n)) w.cores k within
+        chosen-added (λ n. test (state_at w.states n)) (λ n. test (state_at (set w.states k (admitted_after w.final (past_of (state_at w.states k)))) n)) w.board.cores k within
         (ap test (state-here w.states k (admitted_after w.final (past_of (state_at w.states k))) inside) ∙ e)
         (λ j ne. ap test (sym (state-other w.states k j (admitted_after w.final (past_of (state_at w.states k))) ne)))
 
-    stands : IsSystemOf w.overrides (chosen (λ n. is_admitted (state_at (set w.states k (admitted_after w.final (past_of (state_at w.states k)))) n)) w.cores) (merged_words w.system (core_at w.cores k))
+    stands : IsSystemOf w.board.overrides (chosen (λ n. is_admitted (state_at (set w.states k (admitted_after w.final (past_of (state_at w.states k)))) n)) w.board.cores) (merged_words w.system (core_at w.board.cores k))
     stands =
-        system-added w.overrides (admitted_cores w) _ (core_at w.cores k) w.system
+        system-added w.board.overrides (admitted_cores w.board w.states) _ (core_at w.board.cores k) w.system
         (added is_admitted (admitted_is_admitted w.final (past_of (state_at w.states k)))) f.system
 
     early : w.final ≡ false → is_early (admitted_after w.final (past_of (state_at w.states k))) ≡ true
@@ -286,16 +280,16 @@ facts_stored w f k past within not_boot running is =
     or_true true = refl
     or_true false = refl
 
-    gathers : w.final ≡ false → IsGathering (moved w k (admitted_after w.final (past_of (state_at w.states k))) w.halted (merged_words w.system (core_at w.cores k)) w.noted (cond w.final w.kept (bit_and w.kept (core_at w.cores k).lengths)))
+    gathers : w.final ≡ false → IsGathering (moved w k (admitted_after w.final (past_of (state_at w.states k))) w.halted (merged_words w.system (core_at w.board.cores k)) w.noted (cond w.final w.common_lengths (bit_and w.common_lengths (core_at w.board.cores k).lengths)))
     gathers final = let g = f.gathering final in record {
-      noted = subst (λ (l : List Core). w.noted ≡ numbers 53 (λ n. is_local_scope n && list_any (λ core. has_capability w.overrides (boot_of w) core n) l))
-          (chosen-same (λ n. shows (state_at w.states n)) (λ n. shows (state_at (set w.states k (admitted_after w.final (past_of (state_at w.states k)))) n)) w.cores
+      noted = subst (λ (l : List Core). w.noted ≡ numbers 53 (λ n. is_local_scope n && list_any (λ core. has_capability w.board core n) l))
+          (chosen-same (λ n. shows (state_at w.states n)) (λ n. shows (state_at (set w.states k (admitted_after w.final (past_of (state_at w.states k)))) n)) w.board.cores
           (test-same shows w.states k (admitted_after w.final (past_of (state_at w.states k))) inside
           (ap (λ b. is_early (state_at w.states k) || b) (ap is_updated is) ∙ or_true (is_early (state_at w.states k))
           ∙ sym (ap (λ b. b || is_updated (admitted_after w.final (past_of (state_at w.states k)))) (early final))))) g.noted;
       enabled = g.enabled;
       hwcaps = g.hwcaps;
-      kept = λ q. ap (λ b. has_length (cond b w.kept (bit_and w.kept (core_at w.cores k).lengths)) q) final
-          ∙ kept-added (core_at w.cores k) (early_cores w) _ w.kept q (added is_early (early final)) (g.kept q);
+      common_lengths = λ q. ap (λ b. has_length (cond b w.common_lengths (bit_and w.common_lengths (core_at w.board.cores k).lengths)) q) final
+          ∙ kept-added (core_at w.board.cores k) (early_cores w.board w.states) _ w.common_lengths q (added is_early (early final)) (g.common_lengths q);
       lengths = g.lengths;
     }

@@ -10,15 +10,17 @@ use Rattle.armcaps_boot.specs.declared.core_state.CoreState.{CoreState}
 use Rattle.armcaps_boot.specs.declared.core_state.CoreState.TheVariants.{Absent, Checked, Updated}
 use Rattle.armcaps_boot.specs.declared.past.Past.{Past}
 use Rattle.armcaps_boot.specs.declared.past.Past.TheVariants.{Never, Early, Late}
-use Rattle.armcaps_boot.specs.Answers.{first_in_flight}
-use Rattle.armcaps_boot.specs.Causes.{capability_enabled, has_length, late_cause}
-use Rattle.armcaps_boot.specs.Changes.{final_world}
-use Rattle.armcaps_boot.specs.Facts.{Facts, IsParkedFor, IsDecided}
-use Rattle.armcaps_boot.specs.States.{is_admitted, is_early, is_late, is_updated, is_in_flight, is_admitted_past, is_early_past, is_late_past, past_of}
 use Rattle.armcaps_board.specs.Board.{core_at}
-use Rattle.armcaps_boot.specs.World.{World, state_at, boot_of, admitted_cores, early_cores}
+use Rattle.armcaps_boot.specs.Answers.{first_in_flight}
+use Rattle.armcaps_boot.specs.Causes.{capability_enabled, cause_at_verification, has_length}
+use Rattle.armcaps_boot.specs.Changes.{final_world}
+use Rattle.armcaps_boot.specs.Choosing.{chosen}
+use Rattle.armcaps_boot.specs.Facts.{Facts, IsDecided, IsParkedFor}
+use Rattle.armcaps_boot.specs.Numbers.{first_of}
+use Rattle.armcaps_boot.specs.States.{is_admitted, is_admitted_past, is_early, is_early_past, is_in_flight, is_late, is_late_past, is_updated, past_of}
+use Rattle.armcaps_boot.specs.World.{World, admitted_cores, early_cores, state_at}
 use Rattle.armcaps_boot.proofs.ChosenCores.{chosen-same, chosen-among}
-use Rattle.armcaps_boot.proofs.EarlyCores.{early_core_has_no_late_cause}
+use Rattle.armcaps_boot.proofs.EarlyCores.{early_core_fits}
 use Rattle.armcaps_boot.proofs.FirstNumbers.{first_of-fails}
 use Rattle.armcaps_boot.proofs.Gathered.{has_length-none}
 
@@ -38,17 +40,17 @@ none_late w f final j =
     (not_true (is_late (state_at w.states j)) (λ late. let bad : true ≡ false = sym ((f.states j).after_finalise late) ∙ final in let no : ⊥ = cc in no))
 
 -- so all admitted cores are early ones
-pub all_early : (w : World) → Facts w → w.final ≡ false → admitted_cores w ≡ early_cores w
+pub all_early : (w : World) → Facts w → w.final ≡ false → admitted_cores w.board w.states ≡ early_cores w.board w.states
 all_early w f final =
-    chosen-same (λ n. is_admitted (state_at w.states n)) (λ n. is_early (state_at w.states n)) w.cores (none_late w f final)
+    chosen-same (λ n. is_admitted (state_at w.states n)) (λ n. is_early (state_at w.states n)) w.board.cores (none_late w f final)
 
 pub past_the_cores : (states : List CoreState) (j : ℕ) → length states ≤ j → state_at states j ≡ Absent
 past_the_cores states j past = get_or_past states j Absent past
 
 -- an admitted core is one of the machine's
-pub admitted_within : (w : World) → Facts w → (test : CoreState → Bool) → test Absent ≡ false → (j : ℕ) → test (state_at w.states j) ≡ true → j < length w.cores
-admitted_within w f test absent j is = by (cases_lt j (length w.cores)) where
-  by : (j < length w.cores) ⊎ (length w.cores ≤ j) → j < length w.cores
+pub admitted_within : (w : World) → Facts w → (test : CoreState → Bool) → test Absent ≡ false → (j : ℕ) → test (state_at w.states j) ≡ true → j < length w.board.cores
+admitted_within w f test absent j is = by (cases_lt j (length w.board.cores)) where
+  by : (j < length w.board.cores) ⊎ (length w.board.cores ≤ j) → j < length w.board.cores
   by (inl within) = within
   by (inr past) = absurd (let bad : true ≡ false = sym is ∙ ap test (past_the_cores w.states j (omega (arith, f.sizes))) ∙ absent in let no : ⊥ = cc in no)
 
@@ -89,11 +91,11 @@ facts_final w f final none = record {
   gathering = λ e. absurd (let no : ⊥ = cc in no);
   decided = λ _. decides;
 } where
-  fits : (j : ℕ) → is_admitted (state_at w.states j) ≡ true → late_cause w.overrides (boot_of w) (early_cores w) (core_at w.cores j) ≡ None
+  fits : (j : ℕ) → is_admitted (state_at w.states j) ≡ true → cause_at_verification w.board (early_cores w.board w.states) j ≡ None
   fits j admitted =
       let early : is_early (state_at w.states j) ≡ true = sym (none_late w f final j) ∙ admitted in
-      early_core_has_no_late_cause w.overrides (boot_of w) (early_cores w) (core_at w.cores j) f.system.fit
-      (chosen-among (λ n. is_early (state_at w.states n)) w.cores j (admitted_within w f is_early refl j early) early)
+      early_core_fits w.board (early_cores w.board w.states) (core_at w.board.cores j) f.system.fit
+      (chosen-among (λ n. is_early (state_at w.states n)) w.board.cores j (admitted_within w f is_early refl j early) early)
 
   parked : (early late : Option Cause) (cause : Cause) → IsParkedFor w.final early late cause → IsParkedFor true early late cause
   parked early late cause (inl e) = inl e
@@ -103,6 +105,6 @@ facts_final w f final none = record {
   decides = let g = f.gathering final in record {
     enabled = refl;
     hwcaps = refl;
-    ctr = ap (λ (words : List ℕ). word_at words CtrEl0) f.system.words ∙ ap (λ (l : List Core). word_at (system_words w.overrides l) CtrEl0) (all_early w f final);
-    lengths = λ q. lengths_told (capability_enabled w.overrides (boot_of w) (early_cores w) 36) _ w.kept q (g.kept q);
+    final_ctr = ap (λ (words : List ℕ). word_at words CtrEl0) f.system.words ∙ ap (λ (l : List Core). word_at (system_words w.board.overrides l) CtrEl0) (all_early w f final);
+    lengths = λ q. lengths_told (capability_enabled w.board (early_cores w.board w.states) 36) _ w.common_lengths q (g.common_lengths q);
   }

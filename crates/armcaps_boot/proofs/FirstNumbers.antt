@@ -4,7 +4,7 @@ use Rattle.std.proofs.lemmas.Bool.{cases_lt}
 use Rattle.std.proofs.lemmas.List.{get_or_past}
 use Rattle.std.specs.List.{range_with_len, find}
 use Rattle.std.proofs.lemmas.List.FromFn.{get_or-map-range_with_len, length-map-range_with_len}
-use Rattle.armcaps_boot.specs.Numbers.{first_of, numbers, is_in}
+use Rattle.armcaps_boot.specs.Numbers.{first_of, is_in, numbers}
 
 found_same : (p q : ℕ → Bool) (from count : ℕ) → ((k : ℕ) → from ≤ k → k < from + count → p k ≡ q k)
     → find p (range_with_len from count) ≡ find q (range_with_len from count)

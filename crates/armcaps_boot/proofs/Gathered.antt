@@ -6,17 +6,18 @@ use Rattle.std.proofs.lemmas.Nat.Bits.{bit_at_and, bit_at-lt, bit_at-zero}
 use Rattle.std.specs.List.{list_any, list_all}
 use Rattle.armcaps_tables.specs.Core.{Core}
 use Rattle.armcaps_tables.specs.Overriding.{FieldOverrides}
+use Rattle.armcaps_board.specs.Board.{Board}
+use Rattle.armcaps_boot.specs.Causes.{has_capability, has_length}
+use Rattle.armcaps_boot.specs.Numbers.{is_in, numbers}
 use Rattle.armcaps_sanit.specs.System.{IsSystemOf, merged_words}
 use Rattle.armcaps_caps.specs.Capabilities.{is_local_scope}
-use Rattle.armcaps_boot.specs.Causes.{has_capability, has_length}
-use Rattle.armcaps_boot.specs.Numbers.{numbers, is_in}
 use Rattle.armcaps_boot.proofs.ChosenCores.{Added, any-added, all-added}
 use Rattle.armcaps_boot.proofs.FirstNumbers.{is_in-numbers, numbers-same}
 use Rattle.armcaps_sanit.proofs.SystemWords.{is_system_insert, is_system_again}
 
 -- the local capabilities that some of these cores have
-abbrev pub local_of : FieldOverrides → Core → List Core → List Bool
-local_of o boot cores = numbers 53 (λ n. is_local_scope n && list_any (λ core. has_capability o boot core n) cores)
+abbrev pub local_of : Board → List Core → List Bool
+local_of board cores = numbers 53 (λ n. is_local_scope n && list_any (λ core. has_capability board core n) cores)
 
 distributed : (l a h : Bool) → ((l && a) || (l && h)) ≡ (l && (h || a))
 distributed true true true = refl
@@ -26,15 +27,15 @@ distributed true false false = refl
 distributed false a h = refl
 
 -- one more core's local capabilities
-pub noted-added : (o : FieldOverrides) (boot core : Core) (less more : List Core) (noted : List Bool) → Added less more core → noted ≡ local_of o boot less
-    → numbers 53 (λ n. is_in noted n || (is_local_scope n && has_capability o boot core n)) ≡ local_of o boot more
-noted-added o boot core less more noted added is = numbers-same _ _ 53 at where
-  at : (n : ℕ) → n < 53 → (is_in noted n || (is_local_scope n && has_capability o boot core n)) ≡ (is_local_scope n && list_any (λ c. has_capability o boot c n) more)
+pub noted-added : (board : Board) (core : Core) (less more : List Core) (noted : List Bool) → Added less more core → noted ≡ local_of board less
+    → numbers 53 (λ n. is_in noted n || (is_local_scope n && has_capability board core n)) ≡ local_of board more
+noted-added board core less more noted added is = numbers-same _ _ 53 at where
+  at : (n : ℕ) → n < 53 → (is_in noted n || (is_local_scope n && has_capability board core n)) ≡ (is_local_scope n && list_any (λ c. has_capability board c n) more)
   at n within =
-      ap (λ (set : List Bool). is_in set n || (is_local_scope n && has_capability o boot core n)) is
-      ∙ ap (λ b. b || (is_local_scope n && has_capability o boot core n)) (is_in-numbers (λ m. is_local_scope m && list_any (λ c. has_capability o boot c m) less) 53 n within)
-      ∙ distributed (is_local_scope n) (list_any (λ c. has_capability o boot c n) less) (has_capability o boot core n)
-      ∙ ap (λ b. is_local_scope n && b) (sym (any-added (λ c. has_capability o boot c n) less more core added))
+      ap (λ (set : List Bool). is_in set n || (is_local_scope n && has_capability board core n)) is
+      ∙ ap (λ b. b || (is_local_scope n && has_capability board core n)) (is_in-numbers (λ m. is_local_scope m && list_any (λ c. has_capability board c m) less) 53 n within)
+      ∙ distributed (is_local_scope n) (list_any (λ c. has_capability board c n) less) (has_capability board core n)
+      ∙ ap (λ b. is_local_scope n && b) (sym (any-added (λ c. has_capability board c n) less more core added))
 
 both_bits : (x y : ℕ) → x < 2 → y < 2 → (min x y == 1) ≡ ((y == 1) && (x == 1))
 both_bits zero zero h k = refl

@@ -6,42 +6,17 @@ use Rattle.std.proofs.lemmas.Bool.{cases_lt}
 use Rattle.std.proofs.lemmas.Bool.Decides.{Decides-ltb, Decides-eqb, not_from_Decides}
 use Rattle.armcaps_board.specs.declared.event.Event.{Event}
 use Rattle.armcaps_board.specs.declared.event.Event.TheVariants.{Check, Local, Store, Offline, Finalise}
-use Rattle.armcaps_boot.specs.Admission.{came_early, has_come, was_verified}
-use Rattle.armcaps_board.specs.Order.{in_order, is_next, is_some_in_flight, is_begun_last, is_turn_of, is_up_last, is_updated_last}
+use Rattle.armcaps_board.specs.Board.{Board}
+use Rattle.armcaps_board.specs.Order.{in_order, is_begun_last, is_next, is_up_last, is_updated_last}
 use Rattle.armcaps_board.specs.Steps.{is_final, is_finalise, is_local_of, is_step_of, is_store_of, last_step}
+use Rattle.armcaps_boot.specs.Admission.{came_early, has_come, was_verified}
+use Rattle.armcaps_board.proofs.Bools.{and_left, and_right, or_left, or_right, right_false}
+use Rattle.armcaps_board.proofs.Turns.{last-other, last-own, settled, turn_of}
 
 -- went offline
 abbrev pub is_gone_last : Option Event → Bool
 is_gone_last (Some (Offline core)) = true
 is_gone_last _ = false
-
-pub or_left : (a b : Bool) → a ≡ true → (a || b) ≡ true
-or_left true b e = refl
-or_left false b e = absurd (let no : ⊥ = cc in no)
-
-pub or_right : (a b : Bool) → b ≡ true → (a || b) ≡ true
-or_right true b e = refl
-or_right false b e = e
-
-pub left_false : (a b : Bool) → (a || b) ≡ false → a ≡ false
-left_false true b e = e
-left_false false b e = refl
-
-pub right_false : (a b : Bool) → (a || b) ≡ false → b ≡ false
-right_false true b e = absurd (let no : ⊥ = cc in no)
-right_false false b e = e
-
-pub and_left : (a b : Bool) → (a && b) ≡ true → a ≡ true
-and_left true b e = refl
-and_left false b e = e
-
-pub and_right : (a b : Bool) → (a && b) ≡ true → b ≡ true
-and_right true b e = e
-and_right false b e = absurd (let no : ⊥ = cc in no)
-
-pub not_true : (a : Bool) → not a ≡ true → a ≡ false
-not_true true e = sym e
-not_true false e = refl
 
 -- one of two holds, or neither
 pub on_either : (a b : Bool) → (a || b) ≡ true → (P : Type 0) → (a ≡ true → P) → (b ≡ true → P) → P
@@ -62,13 +37,6 @@ local_is_step k (Check c) h = refl
 local_is_step k (Store c) h = refl
 local_is_step k (Offline c) h = refl
 local_is_step k Finalise h = refl
-
--- what a step leaves of what the steps before it say of a core of which it is none
-pub last-other : (k : ℕ) (e : Event) (p : List Event) → is_step_of k e ≡ false → last_step k (e ∷ p) ≡ last_step k p
-last-other k e p other = rw other
-
-pub last-own : (k : ℕ) (e : Event) (p : List Event) → is_step_of k e ≡ true → last_step k (e ∷ p) ≡ Some e
-last-own k e p own = rw own
 
 or_nothing : (a b c : Bool) → b ≡ false → (a || (b && c)) ≡ a
 or_nothing true b c e = refl
@@ -135,44 +103,6 @@ pub record IsCourse (past : List Event) (core : ℕ) : Type 0 where
   pub up : is_up_last (last_step core past) ≡ true → has_come core past ≡ true
   pub gone : is_gone_last (last_step core past) ≡ true → has_come core past ≡ true
 
--- what is_turn_of says
-pub record IsTurn (count boot core : ℕ) (ready : Bool) : Type 0 where
-  pub within : core < count
-  pub not_boot : core ≡ boot → ⊥
-  pub ready_is : ready ≡ true
-
-pub turn_of : (count boot core : ℕ) (ready : Bool) → is_turn_of count boot core ready ≡ true → IsTurn count boot core ready
-turn_of count boot core ready h =
-    let secondary : (nat_lt core count && not (core == boot)) ≡ true = and_left (nat_lt core count && not (core == boot)) ready h in record {
-      within = (Decides-ltb core count).0 (and_left (nat_lt core count) (not (core == boot)) secondary);
-      not_boot = not_from_Decides (core == boot) (Decides-eqb core boot) (not_true (core == boot) (and_right (nat_lt core count) (not (core == boot)) secondary));
-      ready_is = and_right (nat_lt core count && not (core == boot)) ready h;
-    }
-
-none_any : (test : ℕ → Bool) (from count : ℕ) → list_any test (range_with_len from count) ≡ false → (k : ℕ) → from ≤ k → k < from + count → test k ≡ false
-none_any test from zero none k low high = absurd (omega arith)
-none_any test from (suc count) none k low high =
-    by (cases_lt from k) (λ less. none_any test (from + 1) count (right_false (test from) (list_any test (range_with_len (from + 1) count)) none) k less (omega arith)) where
-      by : (from < k) ⊎ (k ≤ from) → (from + 1 ≤ k → test k ≡ false) → test k ≡ false
-      by (inl less) more = more (omega arith)
-      by (inr same) more =
-          let at : k ≡ from = omega arith in rw at (left_false (test from) (list_any test (range_with_len (from + 1) count)) none)
-
-pub none_in_flight : (n : ℕ) (p : List Event) → is_some_in_flight n p ≡ false → (k : ℕ) → k < n → is_begun_last (last_step k p) ≡ false
-unfolding is_some_in_flight
-none_in_flight n p none k within = none_any (λ core. is_begun_last (last_step core p)) 0 n none k (omega arith) (omega arith)
-
--- at finalisation no core is on its way up
-pub settled : (n boot : ℕ) (p : List Event) (e : Event) → is_next n boot p e ≡ true → is_finalise e ≡ true
-    → (is_final p ≡ false) × ((k : ℕ) → k < n → is_begun_last (last_step k p) ≡ false)
-unfolding is_next
-settled n boot p Finalise next final =
-    (not_true _ (and_left _ _ next), none_in_flight n p (not_true _ (and_right (not (is_final p)) _ next)))
-settled n boot p (Check c) next final = absurd (let no : ⊥ = cc in no)
-settled n boot p (Local c) next final = absurd (let no : ⊥ = cc in no)
-settled n boot p (Store c) next final = absurd (let no : ⊥ = cc in no)
-settled n boot p (Offline c) next final = absurd (let no : ⊥ = cc in no)
-
 begun_or_not : (last : Option Event) → is_begun_last last ≡ false → is_updated_last last ≡ true → ⊥
 begun_or_not None h u = cc
 begun_or_not (Some (Check c)) h u = cc
@@ -182,12 +112,12 @@ begun_or_not (Some (Offline c)) h u = cc
 begun_or_not (Some Finalise) h u = cc
 
 -- a core's course after a step of another core, or finalisation
-course_other : (n boot : ℕ) (p : List Event) (e : Event) → is_next n boot p e ≡ true → (k : ℕ) → k < n → IsCourse p k → is_step_of k e ≡ false
+course_other : (board : Board) (p : List Event) (e : Event) → is_next board p e ≡ true → (k : ℕ) → IsCourse p k → is_step_of k e ≡ false
     → IsCourse (e ∷ p) k
-course_other n boot p e next k within h other = record {
+course_other board p e next k h other = record {
   late = λ came early. verified ∙ h.late (sym come ∙ came) (sym (early-same k e p (store_is_step k e other)) ∙ early);
   updated = λ final local. verified ∙ on_either (is_finalise e) (is_final p) final (was_verified k p ≡ true)
-      (λ now. absurd (begun_or_not (last_step k p) ((settled n boot p e next now).1 k within) (sym (ap is_updated_last last) ∙ local)))
+      (λ now. absurd (begun_or_not (last_step k p) ((settled board p e next now).1 k) (sym (ap is_updated_last last) ∙ local)))
       (λ before. h.updated before (sym (ap is_updated_last last) ∙ local));
   up = λ u. come ∙ h.up (sym (ap is_up_last last) ∙ u);
   gone = λ g. come ∙ h.gone (sym (ap is_gone_last last) ∙ g);
@@ -202,27 +132,27 @@ course_other n boot p e next k within h other = record {
   verified = verified-same k e p (local_is_step k e other)
 
 -- a core's course after a step of its own
-course_own : (n boot : ℕ) (p : List Event) (e : Event) → is_next n boot p e ≡ true → (k : ℕ) → IsCourse p k → is_step_of k e ≡ true
+course_own : (board : Board) (p : List Event) (e : Event) → is_next board p e ≡ true → (k : ℕ) → IsCourse p k → is_step_of k e ≡ true
     → IsCourse (e ∷ p) k
-unfolding is_next came_early was_verified
-course_own n boot p (Check c) next k h own =
+unfolding came_early was_verified
+course_own board p (Check c) next k h own =
     let last = last-own k (Check c) p own in record {
       late = λ came early. verified-same k (Check c) p refl ∙ h.late came (sym (early-same k (Check c) p refl) ∙ early);
       updated = λ final local. absurd (let bad : false ≡ true = sym (ap is_updated_last last) ∙ local in let no : ⊥ = cc in no);
       up = λ u. absurd (let bad : false ≡ true = sym (ap is_up_last last) ∙ u in let no : ⊥ = cc in no);
       gone = λ g. absurd (let bad : false ≡ true = sym (ap is_gone_last last) ∙ g in let no : ⊥ = cc in no);
     }
-course_own n boot p (Local c) next k h own =
+course_own board p (Local c) next k h own =
     let last = last-own k (Local c) p own in record {
       late = λ came early. or_left (was_verified k p) _ (h.late came (sym (early-same k (Local c) p refl) ∙ early));
       updated = λ final local. or_right (was_verified k p) ((c == k) && is_final p) (ap (λ b. b && is_final p) own ∙ final);
       up = λ u. absurd (let bad : false ≡ true = sym (ap is_up_last last) ∙ u in let no : ⊥ = cc in no);
       gone = λ g. absurd (let bad : false ≡ true = sym (ap is_gone_last last) ∙ g in let no : ⊥ = cc in no);
     }
-course_own n boot p (Store c) next k h own =
+course_own board p (Store c) next k h own =
     let last = last-own k (Store c) p own in
     let same : c ≡ k = (Decides-eqb c k).0 own in
-    let local : is_updated_last (last_step k p) ≡ true = subst (λ (j : ℕ). is_updated_last (last_step j p) ≡ true) same (turn_of n boot c _ next).ready_is in record {
+    let local : is_updated_last (last_step k p) ≡ true = subst (λ (j : ℕ). is_updated_last (last_step j p) ≡ true) same (turn_of board p (Store c) c refl next).follows in record {
       late = λ came early. verified-same k (Store c) p refl ∙ h.updated (not_false (is_final p) (by_store (sym (ap (λ b. b && not (is_final p)) own) ∙ right_false (came_early k p) _ early))) local;
       updated = λ final u. absurd (let bad : false ≡ true = sym (ap is_updated_last last) ∙ u in let no : ⊥ = cc in no);
       up = λ u. ap (λ b. b || has_come k p) own;
@@ -234,27 +164,27 @@ course_own n boot p (Store c) next k h own =
 
       by_store : not (is_final p) ≡ false → not (is_final p) ≡ false
       by_store e = e
-course_own n boot p (Offline c) next k h own =
+course_own board p (Offline c) next k h own =
     let last = last-own k (Offline c) p own in
     let same : c ≡ k = (Decides-eqb c k).0 own in
-    let came : has_come k p ≡ true = h.up (subst (λ (j : ℕ). is_up_last (last_step j p) ≡ true) same (turn_of n boot c _ next).ready_is) in record {
+    let came : has_come k p ≡ true = h.up (subst (λ (j : ℕ). is_up_last (last_step j p) ≡ true) same (turn_of board p (Offline c) c refl next).follows) in record {
       late = λ came early. verified-same k (Offline c) p refl ∙ h.late came (sym (early-same k (Offline c) p refl) ∙ early);
       updated = λ final u. absurd (let bad : false ≡ true = sym (ap is_updated_last last) ∙ u in let no : ⊥ = cc in no);
       up = λ u. absurd (let bad : false ≡ true = sym (ap is_up_last last) ∙ u in let no : ⊥ = cc in no);
       gone = λ g. came;
     }
-course_own n boot p Finalise next k h own = absurd (let no : ⊥ = cc in no)
+course_own board p Finalise next k h own = absurd (let no : ⊥ = cc in no)
 
 -- of steps in order each core has such a course
-pub course : (n boot : ℕ) (p : List Event) → in_order n boot p ≡ true → (k : ℕ) → k < n → IsCourse p k
+pub course : (board : Board) (p : List Event) → in_order board p ≡ true → (k : ℕ) → IsCourse p k
 unfolding in_order came_early was_verified
-course n boot [] order k within = record {
+course board [] order k = record {
   late = λ came early. absurd (let no : ⊥ = cc in no);
   updated = λ final local. absurd (let no : ⊥ = cc in no);
   up = λ u. absurd (let no : ⊥ = cc in no);
   gone = λ g. absurd (let no : ⊥ = cc in no);
 }
-course n boot (e ∷ p) order k within = by (is_step_of k e) refl (course n boot p (and_right (is_next n boot p e) (in_order n boot p) order) k within) where
+course board (e ∷ p) order k = by (is_step_of k e) refl (course board p (and_right (is_next board p e) (in_order board p) order) k) where
   by : (b : Bool) → is_step_of k e ≡ b → IsCourse p k → IsCourse (e ∷ p) k
-  by true own before = course_own n boot p e (and_left (is_next n boot p e) (in_order n boot p) order) k before own
-  by false other before = course_other n boot p e (and_left (is_next n boot p e) (in_order n boot p) order) k within before other
+  by true own before = course_own board p e (and_left (is_next board p e) (in_order board p) order) k before own
+  by false other before = course_other board p e (and_left (is_next board p e) (in_order board p) order) k before other

@@ -12,22 +12,23 @@ use Rattle.armcaps_board.specs.declared.event.Event.TheVariants.{Check, Local, S
 use Rattle.armcaps_boot.specs.declared.past.Past.{Past}
 use Rattle.armcaps_boot.specs.declared.past.Past.TheVariants.{Never, Early, Late}
 use Rattle.armcaps_board.specs.Board.{Board}
-use Rattle.armcaps_boot.specs.Admission.{came_early, early_cause_of, early_of, has_come, held_back, is_among_admitted, is_among_early, is_among_late, late_cause_of, was_verified}
-use Rattle.armcaps_boot.specs.After.{past_from, state_from, state_of}
-use Rattle.armcaps_boot.specs.Causes.{late_cause, stops_machine}
 use Rattle.armcaps_board.specs.Order.{in_order, is_up_last}
-use Rattle.armcaps_boot.specs.States.{is_admitted, is_admitted_past, is_early, is_early_past, is_late, is_late_past, past_of}
 use Rattle.armcaps_board.specs.Steps.{is_final, is_step_of, last_step}
-use Rattle.armcaps_board.specs.Board.{core_at}
+use Rattle.armcaps_boot.specs.Admission.{came_early, early_cores_after, has_come, held_back, is_among_admitted, is_among_early, is_among_late, was_verified}
+use Rattle.armcaps_boot.specs.After.{past_from, state_from, state_of}
+use Rattle.armcaps_boot.specs.Causes.{cause_at_check, cause_at_verification, stops_machine}
+use Rattle.armcaps_boot.specs.Choosing.{chosen}
+use Rattle.armcaps_boot.specs.States.{is_admitted, is_admitted_past, is_early, is_early_past, is_late, is_late_past, past_of}
 use Rattle.armcaps_boot.proofs.ChosenCores.{chosen-same}
-use Rattle.armcaps_boot.proofs.Histories.{course, early-final, early_came, is_gone_last, last-other, last-own, local_is_step, verified-same, verified_final, without_step}
+use Rattle.armcaps_board.proofs.Turns.{last-other, last-own}
+use Rattle.armcaps_boot.proofs.Histories.{course, early-final, early_came, is_gone_last, local_is_step, verified-same, verified_final, without_step}
 
 -- why a core is held back, by what is looked at
 abbrev pub held_from : Bool → Option Cause → Bool → Bool → Option Cause → Option Cause
 held_from stepped early verified came late = if stepped then option_or early (if verified && not came then late else None) else None
 
 pub held_is : (board : Board) (p : List Event) (k : ℕ)
-    → held_back board p k ≡ held_from (is_some (last_step k p)) (early_cause_of board k) (was_verified k p) (came_early k p) (late_cause_of board p k)
+    → held_back board p k ≡ held_from (is_some (last_step k p)) (cause_at_check board k) (was_verified k p) (came_early k p) (cause_at_verification board (early_cores_after board p) k)
 unfolding held_back
 held_is board p k = refl
 
@@ -36,14 +37,14 @@ abbrev pub past_by : Bool → Bool → Past
 past_by came has = if came then Early else if has then Late else Never
 
 -- after finalisation the early cores stay, and with them each core's late cause
-pub early_of-final : (board : Board) (e : Event) (p : List Event) → is_final p ≡ true → early_of board (e ∷ p) ≡ early_of board p
-early_of-final board e p final =
+pub early_cores_after-final : (board : Board) (e : Event) (p : List Event) → is_final p ≡ true → early_cores_after board (e ∷ p) ≡ early_cores_after board p
+early_cores_after-final board e p final =
     chosen-same (is_among_early board (e ∷ p)) (is_among_early board p) board.cores
-    (λ j. ap (λ (b : Bool). (j == board.boot) || (b && is_none (early_cause_of board j))) (early-final j e p final))
+    (λ j. ap (λ (b : Bool). (j == board.boot) || (b && is_none (cause_at_check board j))) (early-final j e p final))
 
-pub late-final : (board : Board) (e : Event) (p : List Event) (k : ℕ) → is_final p ≡ true → late_cause_of board (e ∷ p) k ≡ late_cause_of board p k
+pub late-final : (board : Board) (e : Event) (p : List Event) (k : ℕ) → is_final p ≡ true → cause_at_verification board (early_cores_after board (e ∷ p)) k ≡ cause_at_verification board (early_cores_after board p) k
 late-final board e p k final =
-    ap (λ (l : List Core). late_cause board.overrides (core_at board.cores board.boot) l (core_at board.cores k)) (early_of-final board e p final)
+    ap (λ (l : List Core). cause_at_verification board l k) (early_cores_after-final board e p final)
 
 from_same : (s t v u c d : Bool) (early l m : Option Cause) → t ≡ s → u ≡ v → (v ≡ true → d ≡ c) → (v ≡ true → m ≡ l)
     → held_from t early u d m ≡ held_from s early v c l
@@ -57,7 +58,7 @@ pub held_stays : (board : Board) (e : Event) (p : List Event) (k : ℕ)
 held_stays board e p k stepped verified =
     held_is board (e ∷ p) k
     ∙ from_same (is_some (last_step k p)) (is_some (last_step k (e ∷ p))) (was_verified k p) (was_verified k (e ∷ p)) (came_early k p) (came_early k (e ∷ p))
-    (early_cause_of board k) (late_cause_of board p k) (late_cause_of board (e ∷ p) k) stepped verified
+    (cause_at_check board k) (cause_at_verification board (early_cores_after board p) k) (cause_at_verification board (early_cores_after board (e ∷ p)) k) stepped verified
     (λ v. early-final k e p (verified_final k p v)) (λ v. late-final board e p k (verified_final k p v))
     ∙ sym (held_is board p k)
 
@@ -98,9 +99,9 @@ pub record IsCase (last : Option Event) (verified came has : Bool) : Type 0 wher
   pub fresh : last ≡ None → has ≡ false
   pub own : last ≡ Some Finalise → ⊥
 
-pub case_of : (n boot : ℕ) (p : List Event) → in_order n boot p ≡ true → (k : ℕ) → k < n
+pub case_of : (board : Board) (p : List Event) → in_order board p ≡ true → (k : ℕ)
     → IsCase (last_step k p) (was_verified k p) (came_early k p) (has_come k p)
-case_of n boot p order k within = let c = course n boot p order k within in record {
+case_of board p order k = let c = course board p order k in record {
   early = early_came k p;
   late = c.late;
   up = c.up;
@@ -213,47 +214,47 @@ pub state_of-boot : (board : Board) (p : List Event) (k : ℕ) → (k == board.b
 unfolding state_of
 state_of-boot board p k here = rw here refl
 
-past_of_state : (board : Board) (p : List Event) (k : ℕ) → in_order (length board.cores) board.boot p ≡ true → k < length board.cores → (k == board.boot) ≡ false
-    → past_of (state_of board p k) ≡ shown (early_cause_of board k) (was_verified k p) (came_early k p) (has_come k p) (late_cause_of board p k)
+past_of_state : (board : Board) (p : List Event) (k : ℕ) → in_order board p ≡ true → k < length board.cores → (k == board.boot) ≡ false
+    → past_of (state_of board p k) ≡ shown (cause_at_check board k) (was_verified k p) (came_early k p) (has_come k p) (cause_at_verification board (early_cores_after board p) k)
 past_of_state board p k order within other =
     ap past_of (state_of-other board p k other ∙ ap (λ (o : Option Cause). state_from (last_step k p) o (past_from k p)) (held_is board p k))
-    ∙ past_shown (last_step k p) (early_cause_of board k) (was_verified k p) (came_early k p) (has_come k p) (late_cause_of board p k)
-    (case_of (length board.cores) board.boot p order k within)
+    ∙ past_shown (last_step k p) (cause_at_check board k) (was_verified k p) (came_early k p) (has_come k p) (cause_at_verification board (early_cores_after board p) k)
+    (case_of board p order k)
 
 -- the early cores and those that were ever admitted are those whose states say so
-pub early_by_state : (board : Board) (p : List Event) (k : ℕ) → in_order (length board.cores) board.boot p ≡ true → k < length board.cores
+pub early_by_state : (board : Board) (p : List Event) (k : ℕ) → in_order board p ≡ true → k < length board.cores
     → is_early (state_of board p k) ≡ is_among_early board p k
 early_by_state board p k order within = by (k == board.boot) refl where
   by : (b : Bool) → (k == board.boot) ≡ b → is_early (state_of board p k) ≡ is_among_early board p k
-  by true here = ap is_early (state_of-boot board p k here) ∙ sym (ap (λ (b : Bool). b || (came_early k p && is_none (early_cause_of board k))) here)
+  by true here = ap is_early (state_of-boot board p k here) ∙ sym (ap (λ (b : Bool). b || (came_early k p && is_none (cause_at_check board k))) here)
   by false other =
       ap is_early_past (past_of_state board p k order within other)
-      ∙ shown_is_early (early_cause_of board k) (was_verified k p) (came_early k p) (has_come k p) (late_cause_of board p k)
-      ∙ sym (ap (λ (b : Bool). b || (came_early k p && is_none (early_cause_of board k))) other)
+      ∙ shown_is_early (cause_at_check board k) (was_verified k p) (came_early k p) (has_come k p) (cause_at_verification board (early_cores_after board p) k)
+      ∙ sym (ap (λ (b : Bool). b || (came_early k p && is_none (cause_at_check board k))) other)
 
-pub admitted_by_state : (board : Board) (p : List Event) (k : ℕ) → in_order (length board.cores) board.boot p ≡ true → k < length board.cores
+pub admitted_by_state : (board : Board) (p : List Event) (k : ℕ) → in_order board p ≡ true → k < length board.cores
     → is_admitted (state_of board p k) ≡ is_among_admitted board p k
 admitted_by_state board p k order within = by (k == board.boot) refl where
   among : Bool → Bool
-  among b = (b || (came_early k p && is_none (early_cause_of board k)))
-      || (not b && has_come k p && not (came_early k p) && is_none (early_cause_of board k) && is_none (late_cause_of board p k))
+  among b = (b || (came_early k p && is_none (cause_at_check board k)))
+      || (not b && has_come k p && not (came_early k p) && is_none (cause_at_check board k) && is_none (cause_at_verification board (early_cores_after board p) k))
 
   by : (b : Bool) → (k == board.boot) ≡ b → is_admitted (state_of board p k) ≡ is_among_admitted board p k
   by true here = ap is_admitted (state_of-boot board p k here) ∙ sym (ap among here)
   by false other =
       ap is_admitted_past (past_of_state board p k order within other)
-      ∙ shown_is_admitted (early_cause_of board k) (was_verified k p) (came_early k p) (has_come k p) (late_cause_of board p k)
+      ∙ shown_is_admitted (cause_at_check board k) (was_verified k p) (came_early k p) (has_come k p) (cause_at_verification board (early_cores_after board p) k)
       ∙ sym (ap among other)
 
-pub late_by_state : (board : Board) (p : List Event) (k : ℕ) → in_order (length board.cores) board.boot p ≡ true → k < length board.cores
+pub late_by_state : (board : Board) (p : List Event) (k : ℕ) → in_order board p ≡ true → k < length board.cores
     → is_late (state_of board p k) ≡ is_among_late board p k
 late_by_state board p k order within = by (k == board.boot) refl where
   among : Bool → Bool
-  among b = not b && has_come k p && not (came_early k p) && is_none (early_cause_of board k) && is_none (late_cause_of board p k)
+  among b = not b && has_come k p && not (came_early k p) && is_none (cause_at_check board k) && is_none (cause_at_verification board (early_cores_after board p) k)
 
   by : (b : Bool) → (k == board.boot) ≡ b → is_late (state_of board p k) ≡ is_among_late board p k
   by true here = ap is_late (state_of-boot board p k here) ∙ sym (ap among here)
   by false other =
       ap is_late_past (past_of_state board p k order within other)
-      ∙ shown_is_late (early_cause_of board k) (was_verified k p) (came_early k p) (has_come k p) (late_cause_of board p k)
+      ∙ shown_is_late (cause_at_check board k) (was_verified k p) (came_early k p) (has_come k p) (cause_at_verification board (early_cores_after board p) k)
       ∙ sym (ap among other)

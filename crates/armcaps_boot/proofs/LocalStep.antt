@@ -8,20 +8,21 @@ use Rattle.armcaps_board.specs.declared.event.Event.TheVariants.{Check, Local, S
 use Rattle.armcaps_boot.specs.declared.past.Past.{Past}
 use Rattle.armcaps_boot.specs.declared.reply.Reply.TheVariants.{Done, Parked, Skipped}
 use Rattle.armcaps_board.specs.Board.{Board}
-use Rattle.armcaps_boot.specs.Admission.{came_early, early_cause_of, has_come, held_back, late_cause_of, was_verified}
+use Rattle.armcaps_board.specs.Order.{is_checked_last}
+use Rattle.armcaps_board.specs.Steps.{is_final, last_step}
+use Rattle.armcaps_boot.specs.Admission.{came_early, early_cores_after, has_come, held_back, was_verified}
 use Rattle.armcaps_boot.specs.After.{past_from, reply_from, reply_of, state_from}
 use Rattle.armcaps_boot.specs.Answers.{cause_at_local, judged, live_answer, local_answer}
-use Rattle.armcaps_boot.specs.Causes.{late_cause, stops_machine}
+use Rattle.armcaps_boot.specs.Causes.{cause_at_check, cause_at_verification, stops_machine}
 use Rattle.armcaps_boot.specs.Changes.{noted_with}
-use Rattle.armcaps_board.specs.Order.{is_checked_last}
 use Rattle.armcaps_boot.specs.States.{is_admitted, is_admitted_past, past_of}
-use Rattle.armcaps_board.specs.Steps.{is_final, last_step}
-use Rattle.armcaps_board.specs.Board.{core_at}
-use Rattle.armcaps_boot.specs.World.{World, boot_of, early_cores, state_at}
-use Rattle.armcaps_boot.proofs.Answering.{IsTurnIn, IsAnswered, IsHeldIn, after_moved, after_skipped, held_in, judged_reply, late_is, numbered_in, parked_state, past-same, past_in, running_in, shows, stepped_if_held}
-use Rattle.armcaps_boot.proofs.Histories.{early-same, come-same, last-own, or_left, or_right, verified_final}
+use Rattle.armcaps_boot.specs.World.{World, early_cores, state_at}
+use Rattle.armcaps_boot.proofs.Answering.{IsTurnIn, IsAnswered, IsHeldIn, after_moved, after_skipped, held_in, judged_reply, verification_is, numbered_in, parked_state, past-same, past_in, running_in, shows, stepped_if_held}
+use Rattle.armcaps_board.proofs.Bools.{or_left, or_right}
+use Rattle.armcaps_board.proofs.Turns.{last-own}
+use Rattle.armcaps_boot.proofs.Histories.{early-same, come-same, verified_final}
 use Rattle.armcaps_boot.proofs.Holding.{held_from, held_is, late-final, past_by}
-use Rattle.armcaps_boot.proofs.StepLaw.{late_cause_does_not_stop}
+use Rattle.armcaps_boot.proofs.StepLaw.{misfit_does_not_stop}
 use Rattle.armcaps_boot.proofs.OwnSteps.{own_number, local_own, state_next, held_state, no_early}
 use Rattle.armcaps_boot.proofs.CheckStep.{goes_reply}
 
@@ -48,17 +49,17 @@ local_held : (board : Board) (p : List Event) (w : World) (k : ℕ) → IsTurnIn
 unfolding was_verified
 local_held board p w k r stepped free = by (is_final p) refl where
   late : Option Cause
-  late = late_cause w.overrides (boot_of w) (early_cores w) (core_at w.cores k)
+  late = cause_at_verification w.board (early_cores w.board w.states) k
 
-  from_is : (verified came : Bool) (late_after : Option Cause) → was_verified k (Local k ∷ p) ≡ verified → late_cause_of board (Local k ∷ p) k ≡ late_after
+  from_is : (verified came : Bool) (late_after : Option Cause) → was_verified k (Local k ∷ p) ≡ verified → cause_at_verification board (early_cores_after board (Local k ∷ p)) k ≡ late_after
       → held_back board (Local k ∷ p) k ≡ held_from true None verified (came_early k p) late_after
   from_is verified came late_after v l =
       held_is board (Local k ∷ p) k
-      ∙ ap (λ (b : Bool). held_from b (early_cause_of board k) (was_verified k (Local k ∷ p)) (came_early k (Local k ∷ p)) (late_cause_of board (Local k ∷ p) k))
+      ∙ ap (λ (b : Bool). held_from b (cause_at_check board k) (was_verified k (Local k ∷ p)) (came_early k (Local k ∷ p)) (cause_at_verification board (early_cores_after board (Local k ∷ p)) k))
       (ap (λ (o : Option Event). is_some o) (last-own k (Local k) p (own_number k)))
-      ∙ ap (λ (o : Option Cause). held_from true o (was_verified k (Local k ∷ p)) (came_early k (Local k ∷ p)) (late_cause_of board (Local k ∷ p) k)) (no_early board p k stepped free)
-      ∙ ap (λ (b : Bool). held_from true None b (came_early k (Local k ∷ p)) (late_cause_of board (Local k ∷ p) k)) v
-      ∙ ap (λ (b : Bool). held_from true None verified b (late_cause_of board (Local k ∷ p) k)) (early-same k (Local k) p refl)
+      ∙ ap (λ (o : Option Cause). held_from true o (was_verified k (Local k ∷ p)) (came_early k (Local k ∷ p)) (cause_at_verification board (early_cores_after board (Local k ∷ p)) k)) (no_early board p k stepped free)
+      ∙ ap (λ (b : Bool). held_from true None b (came_early k (Local k ∷ p)) (cause_at_verification board (early_cores_after board (Local k ∷ p)) k)) v
+      ∙ ap (λ (b : Bool). held_from true None verified b (cause_at_verification board (early_cores_after board (Local k ∷ p)) k)) (early-same k (Local k) p refl)
       ∙ ap (λ (o : Option Cause). held_from true None verified (came_early k p) o) l
 
   none_verified : is_final p ≡ false → was_verified k p ≡ false
@@ -72,13 +73,13 @@ local_held board p w k r stepped free = by (is_final p) refl where
 
   by : (b : Bool) → is_final p ≡ b → held_back board (Local k ∷ p) k ≡ cause_at_local w k
   by false first =
-      from_is false false (late_cause_of board (Local k ∷ p) k)
+      from_is false false (cause_at_verification board (early_cores_after board (Local k ∷ p)) k)
       (ap (λ (b : Bool). b || ((k == k) && is_final p)) (none_verified first) ∙ ap (λ (b : Bool). (k == k) && b) first ∙ ap (λ (b : Bool). b && false) (own_number k)) refl
       ∙ sym (ap (λ (b : Bool). cond b late None) (r.after.final ∙ first))
   by true final =
       from_is true false late
       (or_right (was_verified k p) ((k == k) && is_final p) (ap (λ (b : Bool). b && is_final p) (own_number k) ∙ final))
-      (late-final board (Local k) p k final ∙ sym (late_is board p w k r.after r.order))
+      (late-final board (Local k) p k final ∙ sym (verification_is board p w k r.after r.order))
       ∙ if_not_early (came_early k p) late (λ early. (r.facts.states k).verified (r.after.final ∙ final) (admitted early))
       ∙ sym (ap (λ (b : Bool). cond b late None) (r.after.final ∙ final))
 
@@ -93,21 +94,21 @@ local_again : (board : Board) (p : List Event) (k : ℕ) (cause : Cause) → hel
 unfolding was_verified
 local_again board p k cause held =
     held_is board (Local k ∷ p) k
-    ∙ ap (λ (b : Bool). held_from b (early_cause_of board k) (was_verified k (Local k ∷ p)) (came_early k (Local k ∷ p)) (late_cause_of board (Local k ∷ p) k))
+    ∙ ap (λ (b : Bool). held_from b (cause_at_check board k) (was_verified k (Local k ∷ p)) (came_early k (Local k ∷ p)) (cause_at_verification board (early_cores_after board (Local k ∷ p)) k))
     (ap (λ (o : Option Event). is_some o) (last-own k (Local k) p (own_number k)))
-    ∙ ap (λ (b : Bool). held_from true (early_cause_of board k) (was_verified k (Local k ∷ p)) b (late_cause_of board (Local k ∷ p) k)) (early-same k (Local k) p refl)
-    ∙ held_more (early_cause_of board k) (was_verified k p) (was_verified k (Local k ∷ p)) (came_early k p) (late_cause_of board p k) (late_cause_of board (Local k ∷ p) k) cause
+    ∙ ap (λ (b : Bool). held_from true (cause_at_check board k) (was_verified k (Local k ∷ p)) b (cause_at_verification board (early_cores_after board (Local k ∷ p)) k)) (early-same k (Local k) p refl)
+    ∙ held_more (cause_at_check board k) (was_verified k p) (was_verified k (Local k ∷ p)) (came_early k p) (cause_at_verification board (early_cores_after board p) k) (cause_at_verification board (early_cores_after board (Local k ∷ p)) k) cause
     (λ v. or_left (was_verified k p) ((k == k) && is_final p) v) (λ v. late-final board (Local k) p k (verified_final k p v))
-    (sym (ap (λ (b : Bool). held_from b (early_cause_of board k) (was_verified k p) (came_early k p) (late_cause_of board p k)) (stepped_if_held board p k cause held))
+    (sym (ap (λ (b : Bool). held_from b (cause_at_check board k) (was_verified k p) (came_early k p) (cause_at_verification board (early_cores_after board p) k)) (stepped_if_held board p k cause held))
     ∙ sym (held_is board p k) ∙ held)
 
 local_goes : (w : World) (k : ℕ) (cause : Cause) → cause_at_local w k ≡ Some cause → stops_machine cause ≡ false
 local_goes w k cause is = by w.final refl where
   late : Option Cause
-  late = late_cause w.overrides (boot_of w) (early_cores w) (core_at w.cores k)
+  late = cause_at_verification w.board (early_cores w.board w.states) k
 
   by : (b : Bool) → w.final ≡ b → stops_machine cause ≡ false
-  by true final = late_cause_does_not_stop _ _ _ _ _ _ cause (sym (ap (λ (b : Bool). cond b late None) final) ∙ is)
+  by true final = misfit_does_not_stop _ _ _ _ _ cause (sym (ap (λ (b : Bool). cond b late None) final) ∙ is)
   by false first = absurd (let bad : None ≡ Some cause = sym (ap (λ (b : Bool). cond b late None) first) ∙ is in let no : ⊥ = cc in no)
 
 pub local_answered : (board : Board) (p : List Event) (w : World) (k : ℕ) → IsTurnIn board p w k → is_checked_last (last_step k p) ≡ true
@@ -145,7 +146,7 @@ local_answered board p w k r ready = by (held_back board p k) refl where
       reply = Done;
       is = reply_is None is;
       answer = answer_is None is;
-      after = after_moved board p (Local k) w k (Updated (past_of (state_at w.states k))) w.halted w.system (cond w.final w.noted (noted_with w k)) w.kept r (local_own k)
+      after = after_moved board p (Local k) w k (Updated (past_of (state_at w.states k))) w.halted w.system (cond w.final w.noted (noted_with w k)) w.common_lengths r (local_own k)
           (state_next board p (Local k) k None r.not_boot (own_number k) (held_after ∙ is)
           ∙ ap Updated (past-same (Local k) p k (early-same k (Local k) p refl) (come-same k (Local k) p refl) ∙ sym (past_in board p w k r free)))
           (running_in board p w k r);
@@ -154,7 +155,7 @@ local_answered board p w k r ready = by (held_back board p k) refl where
       reply = Parked cause;
       is = reply_is (Some cause) is ∙ goes_reply cause goes;
       answer = answer_is (Some cause) is ∙ ap Ok (goes_reply cause goes);
-      after = after_moved board p (Local k) w k (IsParked cause) w.halted w.system w.noted w.kept r (local_own k)
+      after = after_moved board p (Local k) w k (IsParked cause) w.halted w.system w.noted w.common_lengths r (local_own k)
           (state_next board p (Local k) k (Some cause) r.not_boot (own_number k) (held_after ∙ is) ∙ parked_state (Local k) cause (past_from k (Local k ∷ p)) goes)
           (running_in board p w k r);
     }

@@ -7,12 +7,14 @@ use Rattle.armcaps_boot.specs.declared.cause.Cause.{Cause}
 use Rattle.armcaps_board.specs.declared.event.Event.{Event}
 use Rattle.armcaps_board.specs.declared.event.Event.TheVariants.{Check, Local, Store, Offline}
 use Rattle.armcaps_board.specs.Board.{Board}
-use Rattle.armcaps_boot.specs.Admission.{came_early, early_cause_of, held_back, late_cause_of, was_verified}
-use Rattle.armcaps_boot.specs.After.{past_from, state_from, state_of}
 use Rattle.armcaps_board.specs.Steps.{is_step_of, last_step}
+use Rattle.armcaps_boot.specs.Admission.{came_early, early_cores_after, held_back, was_verified}
+use Rattle.armcaps_boot.specs.After.{past_from, state_from, state_of}
+use Rattle.armcaps_boot.specs.Causes.{cause_at_check, cause_at_verification}
 use Rattle.armcaps_boot.specs.World.{World}
 use Rattle.armcaps_boot.proofs.Answering.{IsTurnIn, IsOwn, held_in, parked_state, shows}
-use Rattle.armcaps_boot.proofs.Histories.{last-own, verified-same, without_step}
+use Rattle.armcaps_board.proofs.Turns.{last-own}
+use Rattle.armcaps_boot.proofs.Histories.{verified-same, without_step}
 use Rattle.armcaps_boot.proofs.Holding.{held_from, held_is, held_stays, other_number, state_of-other}
 
 pub own_number : (k : ℕ) → (k == k) ≡ true
@@ -57,9 +59,9 @@ early_held true verified came None late s e = refl
 early_held true verified came (Some cause) late s e = absurd (let no : ⊥ = cc in no)
 early_held false verified came early late s e = absurd (let no : ⊥ = cc in no)
 
-pub no_early : (board : Board) (p : List Event) (k : ℕ) → is_some (last_step k p) ≡ true → held_back board p k ≡ None → early_cause_of board k ≡ None
+pub no_early : (board : Board) (p : List Event) (k : ℕ) → is_some (last_step k p) ≡ true → held_back board p k ≡ None → cause_at_check board k ≡ None
 no_early board p k stepped free =
-    early_held (is_some (last_step k p)) (was_verified k p) (came_early k p) (early_cause_of board k) (late_cause_of board p k) stepped (sym (held_is board p k) ∙ free)
+    early_held (is_some (last_step k p)) (was_verified k p) (came_early k p) (cause_at_check board k) (cause_at_verification board (early_cores_after board p) k) stepped (sym (held_is board p k) ∙ free)
 
 -- the early cause that holds back is the cause
 pub early_first : (stepped verified came : Bool) (early late : Option Cause) (cause found : Cause) → stepped ≡ true
@@ -73,18 +75,18 @@ or_no_other None = refl
 or_no_other (Some cause) = refl
 
 -- a core that is free at its check is held back after it by its early cause
-pub check_held : (board : Board) (p : List Event) (k : ℕ) → held_back board p k ≡ None → held_back board (Check k ∷ p) k ≡ early_cause_of board k
+pub check_held : (board : Board) (p : List Event) (k : ℕ) → held_back board p k ≡ None → held_back board (Check k ∷ p) k ≡ cause_at_check board k
 check_held board p k free = by (last_step k p) refl where
   stepped : is_some (last_step k (Check k ∷ p)) ≡ true
   stepped = ap (λ (o : Option Event). is_some o) (last-own k (Check k) p (own_number k))
 
-  by : (o : Option Event) → last_step k p ≡ o → held_back board (Check k ∷ p) k ≡ early_cause_of board k
+  by : (o : Option Event) → last_step k p ≡ o → held_back board (Check k ∷ p) k ≡ cause_at_check board k
   by None none =
       held_is board (Check k ∷ p) k
-      ∙ ap (λ (b : Bool). held_from b (early_cause_of board k) (was_verified k (Check k ∷ p)) (came_early k (Check k ∷ p)) (late_cause_of board (Check k ∷ p) k)) stepped
-      ∙ ap (λ (b : Bool). held_from true (early_cause_of board k) b (came_early k (Check k ∷ p)) (late_cause_of board (Check k ∷ p) k))
+      ∙ ap (λ (b : Bool). held_from b (cause_at_check board k) (was_verified k (Check k ∷ p)) (came_early k (Check k ∷ p)) (cause_at_verification board (early_cores_after board (Check k ∷ p)) k)) stepped
+      ∙ ap (λ (b : Bool). held_from true (cause_at_check board k) b (came_early k (Check k ∷ p)) (cause_at_verification board (early_cores_after board (Check k ∷ p)) k))
       (verified-same k (Check k) p refl ∙ (without_step k p none).1)
-      ∙ or_no_other (early_cause_of board k)
+      ∙ or_no_other (cause_at_check board k)
   by (Some e) some =
       let before : is_some (last_step k p) ≡ true = ap (λ (o : Option Event). is_some o) some in
       held_own board p (Check k) k (own_number k) before (verified-same k (Check k) p refl) ∙ free ∙ sym (no_early board p k before free)

@@ -7,30 +7,31 @@ use Rattle.armcaps_boot.specs.declared.cause.Cause.{Cause}
 use Rattle.armcaps_boot.specs.declared.core_state.CoreState.TheVariants.{Absent}
 use Rattle.armcaps_board.specs.declared.event.Event.{Event}
 use Rattle.armcaps_board.specs.Board.{Board}
-use Rattle.armcaps_boot.specs.Admission.{admitted_of, came_early, early_cause_of, early_of, has_come, is_among_admitted, is_among_early, late_cause_of}
-use Rattle.armcaps_boot.specs.After.{state_of, states_after}
-use Rattle.armcaps_boot.specs.Choosing.{chosen}
-use Rattle.armcaps_boot.specs.Findings.{admitted, early, findings_after}
 use Rattle.armcaps_board.specs.Order.{in_order, is_next}
-use Rattle.armcaps_boot.specs.States.{is_admitted, is_early}
 use Rattle.armcaps_board.specs.Steps.{is_final, is_store_of}
-use Rattle.armcaps_boot.specs.World.{state_at}
-use Rattle.armcaps_boot.proofs.Histories.{and_right, course, early-final, early_came, or_left, or_right, verified_final}
+use Rattle.armcaps_boot.specs.Admission.{admitted_cores_after, came_early, early_cores_after, has_come, is_among_admitted, is_among_early}
+use Rattle.armcaps_boot.specs.After.{state_of, states_after}
+use Rattle.armcaps_boot.specs.Causes.{cause_at_check, cause_at_verification}
+use Rattle.armcaps_boot.specs.Choosing.{chosen}
+use Rattle.armcaps_boot.specs.States.{is_admitted, is_early}
+use Rattle.armcaps_boot.specs.World.{admitted_cores, early_cores, state_at}
+use Rattle.armcaps_board.proofs.Bools.{and_right, or_left, or_right}
+use Rattle.armcaps_boot.proofs.Histories.{course, early-final, early_came, verified_final}
 use Rattle.armcaps_boot.proofs.Holding.{admitted_by_state, early_by_state, late-final}
 
-pub order_before : (n boot : ℕ) (later p : List Event) → in_order n boot (later ++ p) ≡ true → in_order n boot p ≡ true
+pub order_before : (board : Board) (later p : List Event) → in_order board (later ++ p) ≡ true → in_order board p ≡ true
 unfolding in_order
-order_before n boot [] p order = order
-order_before n boot (e ∷ later) p order = order_before n boot later p (and_right (is_next n boot (later ++ p) e) (in_order n boot (later ++ p)) order)
+order_before board [] p order = order
+order_before board (e ∷ later) p order = order_before board later p (and_right (is_next board (later ++ p) e) (in_order board (later ++ p)) order)
 
 -- a core that has come is as early after one more step as it was
-came_early-stays : (n boot : ℕ) (e : Event) (p : List Event) → in_order n boot p ≡ true → (k : ℕ) → k < n → has_come k p ≡ true
+came_early-stays : (board : Board) (e : Event) (p : List Event) → in_order board p ≡ true → (k : ℕ) → has_come k p ≡ true
     → came_early k (e ∷ p) ≡ came_early k p
 unfolding came_early
-came_early-stays n boot e p order k within come = by (came_early k p) refl where
+came_early-stays board e p order k come = by (came_early k p) refl where
   by : (b : Bool) → came_early k p ≡ b → (came_early k p || (is_store_of k e && not (is_final p))) ≡ came_early k p
   by true early = or_left (came_early k p) (is_store_of k e && not (is_final p)) early ∙ sym early
-  by false late = early-final k e p (verified_final k p ((course n boot p order k within).late come late))
+  by false late = early-final k e p (verified_final k p ((course board p order k).late come late))
 
 abbrev among_by : Bool → Bool → Bool → Bool → Bool → Bool
 among_by boot has came without_early without_late =
@@ -45,26 +46,26 @@ among_same false true false l m same = refl
 among_same false false e l m same = ap (λ (b : Bool). among_by false true false e b) (same refl)
 
 -- a core that has come is admitted after one more step exactly where it was
-among_stays : (board : Board) (e : Event) (p : List Event) → in_order (length board.cores) board.boot p ≡ true → (k : ℕ) → k < length board.cores
+among_stays : (board : Board) (e : Event) (p : List Event) → in_order board p ≡ true → (k : ℕ) → k < length board.cores
     → has_come k p ≡ true → is_among_admitted board (e ∷ p) k ≡ is_among_admitted board p k
 among_stays board e p order k within come =
-    ap (λ (b : Bool). among_by (k == board.boot) b (came_early k (e ∷ p)) (is_none (early_cause_of board k)) (is_none (late_cause_of board (e ∷ p) k))) (or_right (is_store_of k e) (has_come k p) come)
-    ∙ ap (λ (b : Bool). among_by (k == board.boot) true b (is_none (early_cause_of board k)) (is_none (late_cause_of board (e ∷ p) k)))
-    (came_early-stays (length board.cores) board.boot e p order k within come)
-    ∙ among_same (k == board.boot) (came_early k p) (is_none (early_cause_of board k)) (is_none (late_cause_of board (e ∷ p) k)) (is_none (late_cause_of board p k))
-    (λ late. ap (λ (o : Option Cause). is_none o) (late-final board e p k (verified_final k p ((course (length board.cores) board.boot p order k within).late come late))))
-    ∙ ap (λ (b : Bool). among_by (k == board.boot) b (came_early k p) (is_none (early_cause_of board k)) (is_none (late_cause_of board p k))) (sym come)
+    ap (λ (b : Bool). among_by (k == board.boot) b (came_early k (e ∷ p)) (is_none (cause_at_check board k)) (is_none (cause_at_verification board (early_cores_after board (e ∷ p)) k))) (or_right (is_store_of k e) (has_come k p) come)
+    ∙ ap (λ (b : Bool). among_by (k == board.boot) true b (is_none (cause_at_check board k)) (is_none (cause_at_verification board (early_cores_after board (e ∷ p)) k)))
+    (came_early-stays board e p order k come)
+    ∙ among_same (k == board.boot) (came_early k p) (is_none (cause_at_check board k)) (is_none (cause_at_verification board (early_cores_after board (e ∷ p)) k)) (is_none (cause_at_verification board (early_cores_after board p) k))
+    (λ late. ap (λ (o : Option Cause). is_none o) (late-final board e p k (verified_final k p ((course board p order k).late come late))))
+    ∙ ap (λ (b : Bool). among_by (k == board.boot) b (came_early k p) (is_none (cause_at_check board k)) (is_none (cause_at_verification board (early_cores_after board p) k))) (sym come)
 
 come_stays : (later p : List Event) (k : ℕ) → has_come k p ≡ true → has_come k (later ++ p) ≡ true
 come_stays [] p k come = come
 come_stays (e ∷ later) p k come = or_right (is_store_of k e) (has_come k (later ++ p)) (come_stays later p k come)
 
-among_after : (board : Board) (later p : List Event) → in_order (length board.cores) board.boot (later ++ p) ≡ true → (k : ℕ) → k < length board.cores
+among_after : (board : Board) (later p : List Event) → in_order board (later ++ p) ≡ true → (k : ℕ) → k < length board.cores
     → has_come k p ≡ true → is_among_admitted board (later ++ p) k ≡ is_among_admitted board p k
 unfolding in_order
 among_after board [] p order k within come = refl
 among_after board (e ∷ later) p order k within come =
-    let before = and_right (is_next (length board.cores) board.boot (later ++ p) e) (in_order (length board.cores) board.boot (later ++ p)) order in
+    let before = and_right (is_next board (later ++ p) e) (in_order board (later ++ p)) order in
     among_stays board e (later ++ p) before k within (come_stays later p k come) ∙ among_after board later p before k within come
 
 among_not_come : (boot came e l : Bool) → (came ≡ true → false ≡ true) → among_by boot false came e l ≡ boot
@@ -80,21 +81,21 @@ among_boot : (boot has came e l : Bool) → boot ≡ true → among_by boot has 
 among_boot boot has came e l here = ap (λ (b : Bool). among_by b has came e l) here
 
 -- a core is admitted by steps exactly where it is the boot core, or has come by them and is admitted by them and later ones
-pub admitted_shorter : (board : Board) (later p : List Event) (k : ℕ) → in_order (length board.cores) board.boot (later ++ p) ≡ true
+pub admitted_shorter : (board : Board) (later p : List Event) (k : ℕ) → in_order board (later ++ p) ≡ true
     → k < length board.cores
     → is_admitted (state_of board p k) ≡ ((k == board.boot) || (has_come k p && is_among_admitted board (later ++ p) k))
 admitted_shorter board later p k order within =
-    admitted_by_state board p k (order_before (length board.cores) board.boot later p order) within ∙ by (has_come k p) refl where
+    admitted_by_state board p k (order_before board later p order) within ∙ by (has_come k p) refl where
       by : (b : Bool) → has_come k p ≡ b → is_among_admitted board p k ≡ ((k == board.boot) || (has_come k p && is_among_admitted board (later ++ p) k))
       by true come = on (k == board.boot) refl where
         on : (b : Bool) → (k == board.boot) ≡ b → is_among_admitted board p k ≡ ((k == board.boot) || (has_come k p && is_among_admitted board (later ++ p) k))
-        on true here = among_boot (k == board.boot) (has_come k p) (came_early k p) (is_none (early_cause_of board k)) (is_none (late_cause_of board p k)) here
+        on true here = among_boot (k == board.boot) (has_come k p) (came_early k p) (is_none (cause_at_check board k)) (is_none (cause_at_verification board (early_cores_after board p) k)) here
             ∙ sym (or_left (k == board.boot) (has_come k p && is_among_admitted board (later ++ p) k) here)
         on false other = sym (among_after board later p order k within come)
             ∙ sym (ap (λ (b : Bool). b || (has_come k p && is_among_admitted board (later ++ p) k)) other ∙ ap (λ (b : Bool). b && is_among_admitted board (later ++ p) k) come)
       by false come =
-          ap (λ (b : Bool). among_by (k == board.boot) b (came_early k p) (is_none (early_cause_of board k)) (is_none (late_cause_of board p k))) come
-          ∙ among_not_come (k == board.boot) (came_early k p) (is_none (early_cause_of board k)) (is_none (late_cause_of board p k)) (λ early. sym come ∙ early_came k p early)
+          ap (λ (b : Bool). among_by (k == board.boot) b (came_early k p) (is_none (cause_at_check board k)) (is_none (cause_at_verification board (early_cores_after board p) k))) come
+          ∙ among_not_come (k == board.boot) (came_early k p) (is_none (cause_at_check board k)) (is_none (cause_at_verification board (early_cores_after board p) k)) (λ early. sym come ∙ early_came k p early)
           ∙ or_false (k == board.boot) ∙ ap (λ (b : Bool). (k == board.boot) || (b && is_among_admitted board (later ++ p) k)) (sym come)
 
 -- tests that agree on the numbers of a list choose the same of it
@@ -109,12 +110,12 @@ pub state_at-after : (board : Board) (p : List Event) (k : ℕ) → k < length b
 unfolding states_after
 state_at-after board p k within = get_or-map-range_with_len (state_of board p) 0 (length board.cores) k k Absent within (omega arith)
 
-pub early_listed : (board : Board) (p : List Event) → in_order (length board.cores) board.boot p ≡ true → early (findings_after board p) ≡ early_of board p
+pub early_listed : (board : Board) (p : List Event) → in_order board p ≡ true → early_cores board (states_after board p) ≡ early_cores_after board p
 early_listed board p order =
     chosen-within (λ n. is_early (state_at (states_after board p) n)) (is_among_early board p) board.cores
     (λ k within. ap is_early (state_at-after board p k within) ∙ early_by_state board p k order within)
 
-pub admitted_listed : (board : Board) (p : List Event) → in_order (length board.cores) board.boot p ≡ true → admitted (findings_after board p) ≡ admitted_of board p
+pub admitted_listed : (board : Board) (p : List Event) → in_order board p ≡ true → admitted_cores board (states_after board p) ≡ admitted_cores_after board p
 admitted_listed board p order =
     chosen-within (λ n. is_admitted (state_at (states_after board p) n)) (is_among_admitted board p) board.cores
     (λ k within. ap is_admitted (state_at-after board p k within) ∙ admitted_by_state board p k order within)

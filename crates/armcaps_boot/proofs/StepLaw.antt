@@ -4,7 +4,14 @@ use Rattle.std.specs.Prelude.{◌==◌, nat_lt}
 use Rattle.std.specs.Option.{option_or, option_map}
 use Rattle.std.proofs.lemmas.Bool.Decides.{Decides-ltb, Decides-eqb, not_from_Decides}
 use Rattle.armcaps_tables.specs.Core.{Core}
-use Rattle.armcaps_tables.specs.Overriding.{FieldOverrides}
+use Rattle.armcaps_board.specs.Board.{Board}
+use Rattle.armcaps_boot.specs.Answers.{Answer, answer_of, cause_at_local, check_answer, finalise_answer, first_in_flight, judged, live_answer, local_answer, numbered, offline_answer, store_answer, unless_halted}
+use Rattle.armcaps_boot.specs.Causes.{cause_at_check, cause_at_verification, first_conflict, has_capability, has_length, misfit, stops_machine}
+use Rattle.armcaps_boot.specs.Changes.{world_after}
+use Rattle.armcaps_boot.specs.Facts.{Facts}
+use Rattle.armcaps_boot.specs.Numbers.{first_of}
+use Rattle.armcaps_boot.specs.States.{has_passed, is_admitted, is_updated, past_of}
+use Rattle.armcaps_boot.specs.World.{World, early_cores, state_at}
 use Rattle.armcaps_caps.specs.Capabilities.{conflicts, is_boot_scope, is_panic}
 use Rattle.armcaps_hwcap.specs.Hwcaps.{core_has_hwcap}
 use Rattle.armcaps_boot.specs.declared.cause.Cause.{Cause}
@@ -16,57 +23,50 @@ use Rattle.armcaps_board.specs.declared.event.Event.TheVariants.{Check, Local, S
 use Rattle.armcaps_boot.specs.declared.halt.Halt.{Halt}
 use Rattle.armcaps_boot.specs.declared.past.Past.{Past}
 use Rattle.armcaps_boot.specs.declared.past.Past.TheVariants.{Never, Early, Late}
-use Rattle.armcaps_boot.specs.Answers.{Answer, answer_of, live_answer, unless_halted, numbered, judged, check_answer, local_answer, store_answer, offline_answer, finalise_answer, first_in_flight, cause_at_check, cause_at_local}
-use Rattle.armcaps_boot.specs.Causes.{has_capability, has_length, first_conflict, first_lack, stops_machine}
-use Rattle.armcaps_boot.specs.Changes.{world_after}
-use Rattle.armcaps_boot.specs.Facts.{Facts}
-use Rattle.armcaps_boot.specs.Numbers.{first_of}
-use Rattle.armcaps_boot.specs.States.{past_of, is_updated, has_passed, is_admitted}
-use Rattle.armcaps_boot.specs.World.{World, state_at}
-use Rattle.armcaps_boot.proofs.CoreSteps.{early_of, late_of, facts_checked, facts_left, facts_out, facts_updated, facts_stored, still_running, now_stopped}
+use Rattle.armcaps_boot.proofs.CoreSteps.{facts_checked, facts_left, facts_out, facts_updated, facts_stored, still_running, now_stopped}
 use Rattle.armcaps_boot.proofs.Finalising.{facts_final}
 use Rattle.armcaps_boot.proofs.FirstNumbers.{first_of-passes}
 use Rattle.armcaps_boot.proofs.Below.{panic_is_boot}
 
--- no late cause stops the machine: the capabilities that do are of boot scope
-pub late_cause_does_not_stop : (enabled advertised told : ℕ → Bool) (o : FieldOverrides) (boot core : Core) (cause : Cause)
-    → first_lack enabled advertised told o boot core ≡ Some cause → stops_machine cause ≡ false
-unfolding first_lack
-late_cause_does_not_stop enabled advertised told o boot core cause is =
-    by (first_conflict (λ number. not (is_boot_scope number)) enabled (has_capability o boot core)) refl
-    (first_of 0 57 (λ index. advertised index && not (core_has_hwcap o core index)))
+-- no cause at verification stops the machine: the capabilities that do are of boot scope
+pub misfit_does_not_stop : (enabled advertised told : ℕ → Bool) (board : Board) (core : Core) (cause : Cause)
+    → misfit enabled advertised told board core ≡ Some cause → stops_machine cause ≡ false
+unfolding misfit
+misfit_does_not_stop enabled advertised told board core cause is =
+    by (first_conflict (λ number. not (is_boot_scope number)) enabled (has_capability board core)) refl
+    (first_of 0 57 (λ index. advertised index && not (core_has_hwcap board.overrides core index)))
     (first_of 1 16 (λ q. told q && not (has_length core.lengths q))) is where
-      not_panic : (n : ℕ) → n < 53 → (not (is_boot_scope n) && conflicts n (enabled n) (has_capability o boot core n)) ≡ true → is_panic n ≡ false
+      not_panic : (n : ℕ) → n < 53 → (not (is_boot_scope n) && conflicts n (enabled n) (has_capability board core n)) ≡ true → is_panic n ≡ false
       not_panic n within passes = on (is_panic n) refl where
         on : (b : Bool) → is_panic n ≡ b → b ≡ false
         on false e = refl
         on true e = let scope = panic_is_boot n within e in let bad : false ≡ true = rw scope at passes in absurd (let no : ⊥ = cc in no)
 
-      by : (cap : Option ℕ) → first_conflict (λ number. not (is_boot_scope number)) enabled (has_capability o boot core) ≡ cap → (hwcap vector : Option ℕ)
+      by : (cap : Option ℕ) → first_conflict (λ number. not (is_boot_scope number)) enabled (has_capability board core) ≡ cap → (hwcap vector : Option ℕ)
           → option_or (option_map Cap cap) (option_or (option_map Hwcap hwcap) (option_map Vector vector)) ≡ Some cause → stops_machine cause ≡ false
       by (Some n) found hwcap vector e =
           let same : Cap n ≡ cause = cc in
-          let passes = first_of-passes (λ number. not (is_boot_scope number) && conflicts number (enabled number) (has_capability o boot core number)) 0 53 n found in
+          let passes = first_of-passes (λ number. not (is_boot_scope number) && conflicts number (enabled number) (has_capability board core number)) 0 53 n found in
           ap stops_machine (sym same) ∙ not_panic n passes.2 passes.0
       by None found (Some i) vector e = let same : Hwcap i ≡ cause = cc in ap stops_machine (sym same)
       by None found None (Some q) e = let same : Vector q ≡ cause = cc in ap stops_machine (sym same)
       by None found None None e = absurd (let no : ⊥ = cc in no)
 
 -- a step of a core is judged by its number first
-numbered_keeps : (w : World) (e : Event) (k : ℕ) (answer : Answer) → Facts w → (k < length w.cores → (k ≡ w.boot → ⊥) → Facts (world_after w e answer))
+numbered_keeps : (w : World) (e : Event) (k : ℕ) (answer : Answer) → Facts w → (k < length w.board.cores → (k ≡ w.board.boot → ⊥) → Facts (world_after w e answer))
     → Facts (world_after w e (numbered w k answer))
-numbered_keeps w e k answer f keeps = by (nat_lt k (length w.cores)) (k == w.boot) refl refl where
-  by : (within boot : Bool) → nat_lt k (length w.cores) ≡ within → (k == w.boot) ≡ boot → Facts (world_after w e (numbered w k answer))
+numbered_keeps w e k answer f keeps = by (nat_lt k (length w.board.cores)) (k == w.board.boot) refl refl where
+  by : (within boot : Bool) → nat_lt k (length w.board.cores) ≡ within → (k == w.board.boot) ≡ boot → Facts (world_after w e (numbered w k answer))
   by false boot a b = rw a f
   by true true a b = rw (a, b) f
-  by true false a b = rw (a, b) (keeps ((Decides-ltb k (length w.cores)).0 a) (not_from_Decides (k == w.boot) (Decides-eqb k w.boot) b))
+  by true false a b = rw (a, b) (keeps ((Decides-ltb k (length w.board.cores)).0 a) (not_from_Decides (k == w.board.boot) (Decides-eqb k w.board.boot) b))
 
 checked_past : (state : CoreState) (past : Past) → state ≡ Checked past → past_of state ≡ past
 checked_past state past e = ap past_of e
 
 -- a check of a core that was never there, or that comes back
-check_keeps : (w : World) (k : ℕ) → Facts w → w.halted ≡ None → k < length w.cores → (k ≡ w.boot → ⊥)
-    → (state : CoreState) → state_at w.states k ≡ state → (cause : Option Cause) → early_of w k ≡ cause
+check_keeps : (w : World) (k : ℕ) → Facts w → w.halted ≡ None → k < length w.board.cores → (k ≡ w.board.boot → ⊥)
+    → (state : CoreState) → state_at w.states k ≡ state → (cause : Option Cause) → cause_at_check w.board k ≡ cause
     → Facts (world_after w (Check k) (check_answer cause state))
 check_keeps w k f running within not_boot Absent is None none =
     facts_checked w f k within not_boot running (ap is_updated is) none
@@ -90,14 +90,14 @@ check_keeps w k f running within not_boot (Updated past) is cause e = f
 check_keeps w k f running within not_boot (Admitted late) is cause e = f
 check_keeps w k f running within not_boot (HasPanicked reason) is cause e = f
 
--- the late cause of a core that was admitted is none, so one that has some never was
+-- a core that was admitted has no cause at verification, so one that has some never was
 was_never : (past : Past) → (is_admitted (Checked past) ≡ true → ⊥) → past ≡ Never
 was_never Never h = refl
 was_never Early h = absurd (h refl)
 was_never Late h = absurd (h refl)
 
-local_keeps : (w : World) (k : ℕ) → Facts w → w.halted ≡ None → k < length w.cores → (k ≡ w.boot → ⊥)
-    → (state : CoreState) → state_at w.states k ≡ state → (final : Bool) → w.final ≡ final → (late cause : Option Cause) → late_of w k ≡ late → cause ≡ cond final late None
+local_keeps : (w : World) (k : ℕ) → Facts w → w.halted ≡ None → k < length w.board.cores → (k ≡ w.board.boot → ⊥)
+    → (state : CoreState) → state_at w.states k ≡ state → (final : Bool) → w.final ≡ final → (late cause : Option Cause) → cause_at_verification w.board (early_cores w.board w.states) k ≡ late → cause ≡ cond final late None
     → Facts (world_after w (Local k) (local_answer cause state))
 local_keeps w k f running within not_boot (Checked past) is final final_is late None late_is same =
     facts_updated w f k past within not_boot running is (λ e. late_is ∙ by final final_is e same) where
@@ -106,8 +106,8 @@ local_keeps w k f running within not_boot (Checked past) is final final_is late 
       by false e t s = absurd (let no : ⊥ = cc in no)
 local_keeps w k f running within not_boot (Checked past) is false final_is late (Some cause) late_is same = absurd (let no : ⊥ = cc in no)
 local_keeps w k f running within not_boot (Checked past) is true final_is late (Some cause) late_is same =
-    let found : late_of w k ≡ Some cause = late_is ∙ sym same in
-    let stops : stops_machine cause ≡ false = late_cause_does_not_stop _ _ _ _ _ _ cause found in
+    let found : cause_at_verification w.board (early_cores w.board w.states) k ≡ Some cause = late_is ∙ sym same in
+    let stops : stops_machine cause ≡ false = misfit_does_not_stop _ _ _ _ _ cause found in
     let never : past ≡ Never = was_never past (λ admitted. let bad : None ≡ Some cause = sym ((f.states k).verified final_is (ap is_admitted is ∙ admitted)) ∙ found in let no : ⊥ = cc in no) in
     rw stops
     (facts_out w f k (IsParked cause) w.halted within not_boot (ap past_of is ∙ never) (ap is_updated is) refl refl refl
@@ -120,7 +120,7 @@ local_keeps w k f running within not_boot (Updated past) is final final_is late 
 local_keeps w k f running within not_boot (Admitted admitted) is final final_is late cause late_is same = f
 local_keeps w k f running within not_boot (HasPanicked reason) is final final_is late cause late_is same = f
 
-store_keeps : (w : World) (k : ℕ) → Facts w → w.halted ≡ None → k < length w.cores → (k ≡ w.boot → ⊥)
+store_keeps : (w : World) (k : ℕ) → Facts w → w.halted ≡ None → k < length w.board.cores → (k ≡ w.board.boot → ⊥)
     → (state : CoreState) → state_at w.states k ≡ state → Facts (world_after w (Store k) (store_answer state))
 store_keeps w k f running within not_boot (Updated past) is = facts_stored w f k past within not_boot running is
 store_keeps w k f running within not_boot (IsParked reason) is = f
@@ -130,7 +130,7 @@ store_keeps w k f running within not_boot (Checked past) is = f
 store_keeps w k f running within not_boot (Admitted admitted) is = f
 store_keeps w k f running within not_boot (HasPanicked reason) is = f
 
-offline_keeps : (w : World) (k : ℕ) → Facts w → w.halted ≡ None → k < length w.cores → (k ≡ w.boot → ⊥)
+offline_keeps : (w : World) (k : ℕ) → Facts w → w.halted ≡ None → k < length w.board.cores → (k ≡ w.board.boot → ⊥)
     → (state : CoreState) → state_at w.states k ≡ state → Facts (world_after w (Offline k) (offline_answer state))
 offline_keeps w k f running within not_boot (Admitted late) is = facts_left w f k late within not_boot running is
 offline_keeps w k f running within not_boot (IsParked reason) is = f
@@ -149,11 +149,11 @@ finalise_keeps w f false final (Some core) some = f
 
 live_keeps : (w : World) (e : Event) → Facts w → w.halted ≡ None → Facts (world_after w e (live_answer w e))
 live_keeps w (Check k) f running =
-    numbered_keeps w (Check k) k (check_answer (cause_at_check w k) (state_at w.states k)) f
-    (λ within not_boot. check_keeps w k f running within not_boot (state_at w.states k) refl (cause_at_check w k) refl)
+    numbered_keeps w (Check k) k (check_answer (cause_at_check w.board k) (state_at w.states k)) f
+    (λ within not_boot. check_keeps w k f running within not_boot (state_at w.states k) refl (cause_at_check w.board k) refl)
 live_keeps w (Local k) f running =
     numbered_keeps w (Local k) k (local_answer (cause_at_local w k) (state_at w.states k)) f
-    (λ within not_boot. local_keeps w k f running within not_boot (state_at w.states k) refl w.final refl (late_of w k) (cause_at_local w k) refl refl)
+    (λ within not_boot. local_keeps w k f running within not_boot (state_at w.states k) refl w.final refl (cause_at_verification w.board (early_cores w.board w.states) k) (cause_at_local w k) refl refl)
 live_keeps w (Store k) f running =
     numbered_keeps w (Store k) k (store_answer (state_at w.states k)) f
     (λ within not_boot. store_keeps w k f running within not_boot (state_at w.states k) refl)

@@ -9,15 +9,14 @@ use Rattle.armcaps_board.specs.declared.event.Event.TheVariants.{Check, Local, S
 use Rattle.armcaps_boot.specs.declared.past.Past.{Past}
 use Rattle.armcaps_boot.specs.declared.past.Past.TheVariants.{Never, Early, Late}
 use Rattle.armcaps_boot.specs.declared.reply.Reply.TheVariants.{Done, Skipped}
-use Rattle.armcaps_board.specs.Board.{Board}
+use Rattle.armcaps_board.specs.Board.{Board, core_at}
+use Rattle.armcaps_board.specs.Order.{is_up_last, is_updated_last}
+use Rattle.armcaps_board.specs.Steps.{is_final, last_step}
 use Rattle.armcaps_boot.specs.Admission.{came_early, has_come, held_back}
 use Rattle.armcaps_boot.specs.After.{past_from, reply_from, reply_of, state_from}
 use Rattle.armcaps_boot.specs.Answers.{offline_answer, store_answer}
 use Rattle.armcaps_boot.specs.Changes.{admitted_after, gone_after}
-use Rattle.armcaps_board.specs.Order.{is_up_last, is_updated_last}
 use Rattle.armcaps_boot.specs.States.{is_late_past, past_of}
-use Rattle.armcaps_board.specs.Steps.{is_final, last_step}
-use Rattle.armcaps_board.specs.Board.{core_at}
 use Rattle.armcaps_boot.specs.World.{World, state_at}
 use Rattle.armcaps_boot.proofs.Answering.{IsTurnIn, IsAnswered, IsHeldIn, after_moved, after_skipped, held_in, numbered_in, past-same, past_in, running_in, shows}
 use Rattle.armcaps_boot.proofs.Histories.{course, early-same, come-same, verified-same, verified_final}
@@ -80,10 +79,10 @@ store_answered board p w k r ready = by (held_back board p k) refl where
         ∙ ap store_answer (shows board p w k r ∙ ap (λ (o : Option Cause). state_from (last_step k p) o (past_from k p)) free)
         ∙ updated_answer (last_step k p) (past_from k p) ready;
     after = after_moved board p (Store k) w k (admitted_after w.final (past_of (state_at w.states k))) w.halted
-        (merged_words w.system (core_at w.cores k)) w.noted (cond w.final w.kept (bit_and w.kept (core_at w.cores k).lengths)) r (store_own k)
+        (merged_words w.system (core_at w.board.cores k)) w.noted (cond w.final w.common_lengths (bit_and w.common_lengths (core_at w.board.cores k).lengths)) r (store_own k)
         (state_next board p (Store k) k None r.not_boot (own_number k) (stays ∙ free)
         ∙ ap (λ (b : Bool). Admitted (is_late_past (past_by (came_early k p || (b && not (is_final p))) (b || has_come k p)))) (own_number k)
-        ∙ store_state (is_final p) (came_early k p) (has_come k p) (λ late come. verified_final k p ((course (length board.cores) board.boot p r.order k r.within).late come late))
+        ∙ store_state (is_final p) (came_early k p) (has_come k p) (λ late come. verified_final k p ((course board p r.order k).late come late))
         ∙ ap (λ (b : Bool). admitted_after b (past_from k p)) (sym r.after.final)
         ∙ ap (admitted_after w.final) (sym (past_in board p w k r free)))
         (running_in board p w k r);
@@ -116,7 +115,7 @@ offline_answered board p w k r ready = by (held_back board p k) refl where
     answer = numbered_in board p w k (offline_answer (state_at w.states k)) r
         ∙ ap offline_answer (shows board p w k r ∙ ap (λ (o : Option Cause). state_from (last_step k p) o (past_from k p)) free)
         ∙ up_answer (last_step k p) (past_from k p) ready;
-    after = after_moved board p (Offline k) w k (gone_after (past_of (state_at w.states k))) w.halted w.system w.noted w.kept r (offline_own k)
+    after = after_moved board p (Offline k) w k (gone_after (past_of (state_at w.states k))) w.halted w.system w.noted w.common_lengths r (offline_own k)
         (state_next board p (Offline k) k None r.not_boot (own_number k) (stays ∙ free)
         ∙ ap (λ (was : Past). Gone (is_late_past was)) (past-same (Offline k) p k (early-same k (Offline k) p refl) (come-same k (Offline k) p refl))
         ∙ leaves (past_from k p) ∙ ap gone_after (sym (past_in board p w k r free)))

@@ -5,35 +5,36 @@ use Rattle.std.specs.List.{range_with_len}
 use Rattle.std.specs.Option.{option_or}
 use Rattle.std.proofs.lemmas.Bool.Decides.{Decides-eqb}
 use Rattle.armcaps_tables.specs.Core.{Core}
-use Rattle.armcaps_tables.specs.Overriding.{FieldOverrides}
 use Rattle.armcaps_boot.specs.declared.cause.Cause.{Cause}
 use Rattle.armcaps_boot.specs.declared.core_state.CoreState.{CoreState}
-use Rattle.armcaps_boot.specs.declared.core_state.CoreState.TheVariants.{Absent, Admitted}
+use Rattle.armcaps_boot.specs.declared.core_state.CoreState.TheVariants.{Absent, Admitted, Parked}
 use Rattle.armcaps_board.specs.declared.event.Event.{Event}
 use Rattle.armcaps_board.specs.declared.event.Event.TheVariants.{Check, Local, Store, Offline, Finalise}
 use Rattle.armcaps_boot.specs.declared.halt.Halt.{Halt}
-use Rattle.armcaps_board.specs.Board.{Board}
-use Rattle.armcaps_boot.specs.Admission.{came_early, early_cause_of, early_of, halt_at, halt_of, has_come, held_back, is_among_admitted, is_among_early, is_among_late, late_cause_of, was_verified}
-use Rattle.armcaps_boot.specs.After.{IsAfter, reply_of, state_of, states_after}
+use Rattle.armcaps_boot.specs.declared.past.Past.{Past}
+use Rattle.armcaps_board.specs.Board.{Board, IsBoard, core_at}
+use Rattle.armcaps_board.specs.Order.{in_order, is_begun_last, is_complete, is_next, is_some_in_flight, is_up_last}
+use Rattle.armcaps_board.specs.Steps.{is_final, last_step}
+use Rattle.armcaps_boot.specs.Admission.{came_early, early_cores_after, halt_at, halt_of, has_come, held_back, is_among_admitted, is_among_early, is_among_late, was_verified}
+use Rattle.armcaps_boot.specs.After.{IsAfter, past_from, reply_of, state_from, state_of, states_after}
 use Rattle.armcaps_boot.specs.Answers.{Answer}
-use Rattle.armcaps_boot.specs.Causes.{capability_enabled, has_capability}
+use Rattle.armcaps_boot.specs.Causes.{capability_enabled, cause_at_check, cause_at_verification, has_capability}
 use Rattle.armcaps_boot.specs.Changes.{world_after}
 use Rattle.armcaps_boot.specs.Facts.{Facts}
 use Rattle.armcaps_boot.specs.First.{first_states, first_world}
-use Rattle.armcaps_board.specs.Order.{in_order, is_begun_last, is_complete, is_next, is_some_in_flight, is_up_last, is_updated_last}
-use Rattle.armcaps_boot.specs.Outcome.{IsAdmittedOrParked, IsBoard, IsSafe, has_capability_of, is_enabled_of}
+use Rattle.armcaps_boot.specs.Outcome.{IsFirstCause, IsAdmittedOrParked, IsSafe, is_enabled_after}
 use Rattle.armcaps_boot.specs.Safety.{WasAdmitted, core_has, is_enabled}
 use Rattle.armcaps_boot.specs.States.{is_admitted, is_admitted_past}
-use Rattle.armcaps_board.specs.Steps.{is_final, last_step}
-use Rattle.armcaps_board.specs.Board.{core_at}
-use Rattle.armcaps_boot.specs.World.{World, boot_of, early_cores, state_at}
+use Rattle.armcaps_boot.specs.World.{World, state_at}
 use Rattle.armcaps_boot.proofs.Answering.{IsHeldIn, IsTurnIn, early_cores_are, held_in, past_in, states_set}
 use Rattle.armcaps_boot.proofs.Beginning.{first_facts}
 use Rattle.armcaps_boot.proofs.Below.{erratum_is_counted, system_is_counted}
 use Rattle.armcaps_boot.proofs.AnySteps.{step_after, step_answered}
-use Rattle.armcaps_boot.proofs.Histories.{and_left, and_right, course, early_came, is_gone_last, none_in_flight, not_true, on_either, turn_of}
+use Rattle.armcaps_board.proofs.Bools.{and_left, and_right, not_true}
+use Rattle.armcaps_board.proofs.Turns.{none_in_flight, turn_of}
+use Rattle.armcaps_boot.proofs.Histories.{course, early_came, is_gone_last, on_either}
 use Rattle.armcaps_boot.proofs.Holding.{admitted_by_state, held_from, held_is, not_finalise, other_number, past_by, state_of-boot, state_of-other}
-use Rattle.armcaps_boot.proofs.SafeSystem.{enabled_is_supported, needed_is_enabled}
+use Rattle.armcaps_boot.proofs.SafeSystem.{enabled_within, enabled_is_supported, needed_is_enabled}
 use Rattle.armcaps_boot.proofs.ShorterHistories.{state_at-after}
 use Rattle.armcaps_boot.proofs.StepLaw.{step_keeps_facts}
 
@@ -50,10 +51,10 @@ first_states_are board within =
     (λ j other. sym (state_of-other board [] j (other_number j board.boot other)))
 
 -- a machine before its first step
-pub begins : (board : Board) → board.boot < length board.cores → IsAfter board [] (first_world board.cores board.boot board.overrides)
+pub begins : (board : Board) → board.boot < length board.cores → IsAfter board [] (first_world board)
 unfolding halt_of
 begins board within = record {
-  of_board = record { cores = refl; boot = refl; overrides = refl };
+  of_board = refl;
   states = first_states_are board within;
   final = refl;
   halted = refl;
@@ -69,16 +70,16 @@ none_first : (a b : Option Halt) → option_or a b ≡ None → a ≡ None
 none_first None b e = refl
 none_first (Some halt) b e = e
 
-pub reached : (board : Board) (p : List Event) → IsBoard board → in_order (length board.cores) board.boot p ≡ true → halt_of board p ≡ None → IsReached board p
+pub reached : (board : Board) (p : List Event) → IsBoard board → in_order board p ≡ true → halt_of board p ≡ None → IsReached board p
 unfolding in_order halt_of
 reached board [] b order running = record {
-  world = first_world board.cores board.boot board.overrides;
-  facts = first_facts board.cores board.boot board.overrides b.within b.few b.fit b.plain_ctr;
+  world = first_world board;
+  facts = first_facts board b;
   after = begins board b.within;
 }
 reached board (e ∷ p) b order running =
-    let next = and_left (is_next (length board.cores) board.boot p e) (in_order (length board.cores) board.boot p) order in
-    let before_order = and_right (is_next (length board.cores) board.boot p e) (in_order (length board.cores) board.boot p) order in
+    let next = and_left (is_next board p e) (in_order board p) order in
+    let before_order = and_right (is_next board p e) (in_order board p) order in
     let still = none_first (halt_of board p) (halt_at board e) running in
     let r = reached board p b before_order still in
     let w = r.world in
@@ -89,48 +90,44 @@ reached board (e ∷ p) b order running =
     }
 
 -- a core that has come is one of the board
-come_within : (n boot : ℕ) (p : List Event) (k : ℕ) → in_order n boot p ≡ true → has_come k p ≡ true → k < n
-unfolding in_order is_next
-come_within n boot [] k order come = absurd (let no : ⊥ = cc in no)
-come_within n boot (Store c ∷ p) k order come =
-    let t = turn_of n boot c (is_updated_last (last_step c p)) (and_left (is_next n boot p (Store c)) (in_order n boot p) order) in
-    on_either (c == k) (has_come k p) come (k < n) (λ own. subst (λ (j : ℕ). j < n) ((Decides-eqb c k).0 own) t.within)
-    (λ before. come_within n boot p k (and_right (is_next n boot p (Store c)) (in_order n boot p) order) before)
-come_within n boot (Check c ∷ p) k order come = come_within n boot p k (and_right (is_next n boot p (Check c)) (in_order n boot p) order) come
-come_within n boot (Local c ∷ p) k order come = come_within n boot p k (and_right (is_next n boot p (Local c)) (in_order n boot p) order) come
-come_within n boot (Offline c ∷ p) k order come = come_within n boot p k (and_right (is_next n boot p (Offline c)) (in_order n boot p) order) come
-come_within n boot (Finalise ∷ p) k order come = come_within n boot p k (and_right (is_next n boot p Finalise) (in_order n boot p) order) come
+come_within : (board : Board) (p : List Event) (k : ℕ) → in_order board p ≡ true → has_come k p ≡ true → k < length board.cores
+unfolding in_order
+come_within board [] k order come = absurd (let no : ⊥ = cc in no)
+come_within board (Store c ∷ p) k order come =
+    let t = turn_of board p (Store c) c refl (and_left (is_next board p (Store c)) (in_order board p) order) in
+    on_either (c == k) (has_come k p) come (k < length board.cores) (λ own. subst (λ (j : ℕ). j < length board.cores) ((Decides-eqb c k).0 own) t.within)
+    (λ before. come_within board p k (and_right (is_next board p (Store c)) (in_order board p) order) before)
+come_within board (Check c ∷ p) k order come = come_within board p k (and_right (is_next board p (Check c)) (in_order board p) order) come
+come_within board (Local c ∷ p) k order come = come_within board p k (and_right (is_next board p (Local c)) (in_order board p) order) come
+come_within board (Offline c ∷ p) k order come = come_within board p k (and_right (is_next board p (Offline c)) (in_order board p) order) come
+come_within board (Finalise ∷ p) k order come = come_within board p k (and_right (is_next board p Finalise) (in_order board p) order) come
 
 -- an admitted core is one of the board
-among_within : (board : Board) (p : List Event) (k : ℕ) → IsBoard board → in_order (length board.cores) board.boot p ≡ true
+among_within : (board : Board) (p : List Event) (k : ℕ) → IsBoard board → in_order board p ≡ true
     → is_among_admitted board p k ≡ true → k < length board.cores
 among_within board p k b order among =
     on_either (is_among_early board p k) (is_among_late board p k) among (k < length board.cores)
-    (λ early. on_either (k == board.boot) (came_early k p && is_none (early_cause_of board k)) early (k < length board.cores)
+    (λ early. on_either (k == board.boot) (came_early k p && is_none (cause_at_check board k)) early (k < length board.cores)
     (λ here. subst (λ (j : ℕ). j < length board.cores) (sym ((Decides-eqb k board.boot).0 here)) b.within)
-    (λ came. come (early_came k p (and_left (came_early k p) (is_none (early_cause_of board k)) came))))
+    (λ came. come (early_came k p (and_left (came_early k p) (is_none (cause_at_check board k)) came))))
     (λ late. come (and_right (not (k == board.boot)) (has_come k p)
     (and_left (not (k == board.boot) && has_come k p) (not (came_early k p))
-    (and_left (not (k == board.boot) && has_come k p && not (came_early k p)) (is_none (early_cause_of board k))
-    (and_left (not (k == board.boot) && has_come k p && not (came_early k p) && is_none (early_cause_of board k)) (is_none (late_cause_of board p k)) late))))) where
+    (and_left (not (k == board.boot) && has_come k p && not (came_early k p)) (is_none (cause_at_check board k))
+    (and_left (not (k == board.boot) && has_come k p && not (came_early k p) && is_none (cause_at_check board k)) (is_none (cause_at_verification board (early_cores_after board p) k)) late))))) where
       come : has_come k p ≡ true → k < length board.cores
-      come h = come_within (length board.cores) board.boot p k order h
+      come h = come_within board p k order h
 
-enabled_is : (board : Board) (p : List Event) (w : World) (n : ℕ) → IsAfter board p w → in_order (length board.cores) board.boot p ≡ true
-    → is_enabled w n ≡ is_enabled_of board p n
-enabled_is board p w n after order =
-    ap (λ (o : FieldOverrides). capability_enabled o (boot_of w) (early_cores w) n) after.of_board.overrides
-    ∙ ap (λ (l : List Core). capability_enabled board.overrides (boot_of w) l n) (early_cores_are board p w after order)
-    ∙ ap (λ (l : List Core). capability_enabled board.overrides (core_at l w.boot) (early_of board p) n) after.of_board.cores
-    ∙ ap (λ (b : ℕ). capability_enabled board.overrides (core_at board.cores b) (early_of board p) n) after.of_board.boot
+enabled_is : (board : Board) (p : List Event) (w : World) (n : ℕ) → IsAfter board p w → in_order board p ≡ true → n < 53
+    → is_enabled w n ≡ is_enabled_after board p n
+enabled_is board p w n after order within =
+    enabled_within w n within
+    ∙ ap (λ (l : List Core). capability_enabled w.board l n) (early_cores_are board p w after order)
+    ∙ ap (λ (b : Board). capability_enabled b (early_cores_after board p) n) after.of_board
 
-has_is : (board : Board) (p : List Event) (w : World) (core n : ℕ) → IsAfter board p w → core_has w core n ≡ has_capability_of board core n
-has_is board p w core n after =
-    ap (λ (o : FieldOverrides). has_capability o (boot_of w) (core_at w.cores core) n) after.of_board.overrides
-    ∙ ap (λ (l : List Core). has_capability board.overrides (core_at l w.boot) (core_at l core) n) after.of_board.cores
-    ∙ ap (λ (b : ℕ). has_capability board.overrides (core_at board.cores b) (core_at board.cores core) n) after.of_board.boot
+has_is : (board : Board) (p : List Event) (w : World) (core n : ℕ) → IsAfter board p w → core_has w core n ≡ has_capability board (core_at board.cores core) n
+has_is board p w core n after = ap (λ (b : Board). has_capability b (core_at b.cores core) n) after.of_board
 
-was_admitted : (board : Board) (p : List Event) (w : World) (core : ℕ) → IsBoard board → IsAfter board p w → in_order (length board.cores) board.boot p ≡ true
+was_admitted : (board : Board) (p : List Event) (w : World) (core : ℕ) → IsBoard board → IsAfter board p w → in_order board p ≡ true
     → is_among_admitted board p core ≡ true → WasAdmitted w core
 was_admitted board p w core b after order among =
     let within = among_within board p core b order among in
@@ -160,43 +157,52 @@ came_admitted true has h = refl
 came_admitted false true h = refl
 came_admitted false false h = h
 
+-- the state of a core of the machine, and of the steps
+state_is : (board : Board) (p : List Event) (w : World) (k : ℕ) → IsTurnIn board p w k → state_at w.states k ≡ state_of board p k
+state_is board p w k r = ap (λ (l : List CoreState). state_at l k) r.after.states ∙ state_at-after board p k r.within
+
 held_rightly : (board : Board) (p : List Event) (w : World) (k : ℕ) → IsTurnIn board p w k → is_some (last_step k p) ≡ true → is_begun_last (last_step k p) ≡ false
     → IsAdmittedOrParked board p k
 held_rightly board p w k r stepped begun = by (held_back board p k) refl where
   come : has_come k p ≡ true
-  come = let c = course (length board.cores) board.boot p r.order k r.within in
+  come = let c = course board p r.order k in
       settled_come (last_step k p) (has_come k p) stepped begun (not_finalise k p) c.up c.gone
-
-  shown_state : state_at w.states k ≡ state_of board p k
-  shown_state = ap (λ (l : List CoreState). state_at l k) r.after.states ∙ state_at-after board p k r.within
 
   by : (held : Option Cause) → held_back board p k ≡ held → IsAdmittedOrParked board p k
   by None free =
-      inl (sym (admitted_by_state board p k r.order r.within) ∙ ap is_admitted (sym shown_state) ∙ ap is_admitted_past (past_in board p w k r free)
+      inl (sym (admitted_by_state board p k r.order r.within) ∙ ap is_admitted (sym (state_is board p w k r)) ∙ ap is_admitted_past (past_in board p w k r free)
       ∙ came_admitted (came_early k p) (has_come k p) come)
-  by (Some cause) held = on (held_cases (early_cause_of board k) (was_verified k p) (came_early k p) (late_cause_of board p k) cause from) where
-    from : held_from true (early_cause_of board k) (was_verified k p) (came_early k p) (late_cause_of board p k) ≡ Some cause
-    from = sym (ap (λ (b : Bool). held_from b (early_cause_of board k) (was_verified k p) (came_early k p) (late_cause_of board p k)) stepped)
+  by (Some cause) held = inr (cause, record { parked = sym (state_is board p w k r) ∙ h.parked; first = on (held_cases (cause_at_check board k) (was_verified k p) (came_early k p) (cause_at_verification board (early_cores_after board p) k) cause from) }) where
+    from : held_from true (cause_at_check board k) (was_verified k p) (came_early k p) (cause_at_verification board (early_cores_after board p) k) ≡ Some cause
+    from = sym (ap (λ (b : Bool). held_from b (cause_at_check board k) (was_verified k p) (came_early k p) (cause_at_verification board (early_cores_after board p) k)) stepped)
         ∙ sym (held_is board p k) ∙ held
 
     h : IsHeldIn w k cause
     h = held_in board p w k r cause held
 
-    on : (early_cause_of board k ≡ Some cause) ⊎ ((early_cause_of board k ≡ None) × (came_early k p ≡ false) × (late_cause_of board p k ≡ Some cause))
-        → IsAdmittedOrParked board p k
-    on (inl early) = inr (inl (cause, (early, sym shown_state ∙ h.parked)))
-    on (inr late) = inr (inr (cause, record { came = come; late = late.1; no_early_cause = late.0; late_cause = late.2; parked = sym shown_state ∙ h.parked }))
+    on : (cause_at_check board k ≡ Some cause) ⊎ ((cause_at_check board k ≡ None) × (came_early k p ≡ false) × (cause_at_verification board (early_cores_after board p) k ≡ Some cause))
+        → IsFirstCause board p k cause
+    on (inl at_check) = inl at_check
+    on (inr late) = inr (record { came = come; late = late.1; none_at_check = late.0; at_verification = late.2 })
 
-pub safe : (board : Board) (p : List Event) → IsBoard board → in_order (length board.cores) board.boot p ≡ true → is_complete (length board.cores) p ≡ true
-    → halt_of board p ≡ None → IsSafe board p
+-- a parked core has made a step and is not the boot core
+parked_stepped : (last : Option Event) (held : Option Cause) (was : Past) (cause : Cause) → state_from last held was ≡ Parked cause → is_some last ≡ true
+parked_stepped None held was cause e = absurd (let no : ⊥ = cc in no)
+parked_stepped (Some event) held was cause e = refl
+
+same_cause : (state : CoreState) (one other : Cause) → state ≡ Parked one → state ≡ Parked other → one ≡ other
+same_cause state one other e f = let bad : Parked one ≡ Parked other = sym e ∙ f in cc
+
+pub safe : (board : Board) (p : List Event) → IsBoard board → in_order board p ≡ true → is_complete p ≡ true → halt_of board p ≡ None → IsSafe board p
 safe board p b order complete running = record {
   supported = λ n core scope on among.
       sym (has_is board p w core n r.after)
-      ∙ enabled_is_supported w r.facts final n (system_is_counted n scope) scope (enabled_is board p w n r.after order ∙ on) core (was_admitted board p w core b r.after order among);
+      ∙ enabled_is_supported w r.facts final n scope (enabled_is board p w n r.after order (system_is_counted n scope) ∙ on) core (was_admitted board p w core b r.after order among);
   needed = λ n core erratum among has.
-      sym (enabled_is board p w n r.after order)
-      ∙ needed_is_enabled w r.facts final n (erratum_is_counted n erratum) erratum core (was_admitted board p w core b r.after order among) (has_is board p w core n r.after ∙ has);
+      sym (enabled_is board p w n r.after order (erratum_is_counted n erratum))
+      ∙ needed_is_enabled w r.facts final n erratum core (was_admitted board p w core b r.after order among) (has_is board p w core n r.after ∙ has);
   held = λ core within stepped. by core within stepped (core == board.boot) refl;
+  parked = λ core cause within is. parked core cause within is (core == board.boot) refl;
 } where
   r : IsReached board p
   r = reached board p b order running
@@ -205,12 +211,34 @@ safe board p b order complete running = record {
   w = r.world
 
   final : w.final ≡ true
-  final = r.after.final ∙ and_left (is_final p) (not (is_some_in_flight (length board.cores) p)) complete
+  final = r.after.final ∙ and_left (is_final p) (not (is_some_in_flight p)) complete
+
+  turn : (core : ℕ) → core < length board.cores → (core == board.boot) ≡ false → IsTurnIn board p w core
+  turn core within other = record {
+    facts = r.facts;
+    after = r.after;
+    order = order;
+    running = running;
+    within = within;
+    not_boot = λ e. let bad : false ≡ true = sym other ∙ (Decides-eqb core board.boot).1 e in cc;
+  }
+
+  settles : (core : ℕ) → is_begun_last (last_step core p) ≡ false
+  settles core = none_in_flight p (not_true _ (and_right (is_final p) (not (is_some_in_flight p)) complete)) core
 
   by : (core : ℕ) → core < length board.cores → is_some (last_step core p) ≡ true → (boot : Bool) → (core == board.boot) ≡ boot → IsAdmittedOrParked board p core
   by core within stepped true here =
-      inl (ap (λ (b : Bool). (b || (came_early core p && is_none (early_cause_of board core))) || is_among_late board p core) here)
-  by core within stepped false other =
-      held_rightly board p w core
-      (record { facts = r.facts; after = r.after; order = order; running = running; within = within; not_boot = λ e. let bad : false ≡ true = sym other ∙ (Decides-eqb core board.boot).1 e in cc })
-      stepped (none_in_flight (length board.cores) p (not_true _ (and_right (is_final p) (not (is_some_in_flight (length board.cores) p)) complete)) core within)
+      inl (ap (λ (b : Bool). (b || (came_early core p && is_none (cause_at_check board core))) || is_among_late board p core) here)
+  by core within stepped false other = held_rightly board p w core (turn core within other) stepped (settles core)
+
+  -- a parked core is not admitted, so it is held back, and for one cause alone
+  judge : (core : ℕ) (cause : Cause) → core < length board.cores → state_of board p core ≡ Parked cause → IsAdmittedOrParked board p core → IsFirstCause board p core cause
+  judge core cause within is (inl among) =
+      absurd (let bad : false ≡ true = sym (ap is_admitted is) ∙ admitted_by_state board p core order within ∙ among in let no : ⊥ = cc in no)
+  judge core cause within is (inr held) = subst (λ (c : Cause). IsFirstCause board p core c) (same_cause (state_of board p core) held.0 cause held.1.parked is) held.1.first
+
+  parked : (core : ℕ) (cause : Cause) → core < length board.cores → state_of board p core ≡ Parked cause → (boot : Bool) → (core == board.boot) ≡ boot → IsFirstCause board p core cause
+  parked core cause within is true here = absurd (let bad : Admitted false ≡ Parked cause = sym (state_of-boot board p core here) ∙ is in let no : ⊥ = cc in no)
+  parked core cause within is false other =
+      let stepped = parked_stepped (last_step core p) (held_back board p core) (past_from core p) cause (sym (state_of-other board p core other) ∙ is) in
+      judge core cause within is (by core within stepped false other)

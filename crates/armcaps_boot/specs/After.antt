@@ -2,25 +2,26 @@
 -- `secondary_start_kernel`, and arch/arm64/kernel/cpufeature.c, `check_local_cpu_capabilities`).
 use Rattle.std.specs.Prelude.{◌≡◌, ℕ, ◌==◌, false, if◌then◌else◌, List, ◌∷◌, length, map, Option, Some, None}
 use Rattle.std.specs.List.{range_with_len}
+use Rattle.std.specs.Option.{option_map_or}
+use Rattle.armcaps_board.specs.declared.event.Event.{Event}
+use Rattle.armcaps_board.specs.declared.event.Event.TheVariants.{Check, Local, Store, Offline, Finalise}
+use Rattle.armcaps_board.specs.Board.{Board}
+use Rattle.armcaps_board.specs.Steps.{core_of, is_final, last_step}
 use Rattle.armcaps_boot.specs.declared.cause.Cause.{Cause}
 use Rattle.armcaps_boot.specs.declared.core_state.CoreState.{CoreState}
 use Rattle.armcaps_boot.specs.declared.core_state.CoreState.TheVariants.{Absent, Checked, Updated, Admitted, Offline as Gone, Parked as IsParked, Panicked as HasPanicked}
-use Rattle.armcaps_board.specs.declared.event.Event.{Event}
-use Rattle.armcaps_board.specs.declared.event.Event.TheVariants.{Check, Local, Store, Offline, Finalise}
 use Rattle.armcaps_boot.specs.declared.past.Past.{Past}
 use Rattle.armcaps_boot.specs.declared.past.Past.TheVariants.{Never, Early, Late}
 use Rattle.armcaps_boot.specs.declared.reply.Reply.{Reply}
 use Rattle.armcaps_boot.specs.declared.reply.Reply.TheVariants.{Done, Parked, Panicked, Skipped}
-use Rattle.armcaps_board.specs.Board.{Board}
 use Rattle.armcaps_boot.specs.Admission.{came_early, has_come, held_back, halt_of}
 use Rattle.armcaps_boot.specs.Causes.{stops_machine}
 use Rattle.armcaps_boot.specs.States.{is_late_past}
-use Rattle.armcaps_board.specs.Steps.{is_final, last_step}
 use Rattle.armcaps_boot.specs.World.{World}
 
 -- as what a core was admitted by these steps
 abbrev pub past_from : ℕ → List Event → Past
-past_from number past = if came_early number past then Early else if has_come number past then Late else Never
+past_from number steps = if came_early number steps then Early else if has_come number steps then Late else Never
 
 -- the state of a core with this last step, which is held back for this cause if for any, and was admitted as this
 abbrev pub state_from : Option Event → Option Cause → Past → CoreState
@@ -34,40 +35,29 @@ state_from (Some Finalise) None was = Absent
 
 -- the state of a core after these steps
 unfoldable pub state_of : Board → List Event → ℕ → CoreState
-state_of board past number =
+state_of board steps number =
     if number == board.boot then Admitted false
-    else state_from (last_step number past) (held_back board past number) (past_from number past)
+    else state_from (last_step number steps) (held_back board steps number) (past_from number steps)
 
 -- the states of all cores after these steps, in rising number
 unfoldable pub states_after : Board → List Event → List CoreState
-states_after board past = map (state_of board past) (range_with_len 0 (length board.cores))
+states_after board steps = map (state_of board steps) (range_with_len 0 (length board.cores))
 
--- what a step of a core is answered that is held back for these causes, if for any, before the step and after it
+-- what a step is answered whose core is held back for these causes, if for any, before the step and after it: held before, it is
+-- skipped; held only now, it is parked or has stopped the machine; else the step is done
 abbrev pub reply_from : Option Cause → Option Cause → Reply
 reply_from (Some cause) after = Skipped
-reply_from None None = Done
 reply_from None (Some cause) = if stops_machine cause then Panicked cause else Parked cause
+reply_from None None = Done
 
-abbrev pub reply_to : Board → List Event → Event → ℕ → Reply
-reply_to board past event number = reply_from (held_back board past number) (held_back board (event ∷ past) number)
-
--- what a step after these is answered
+-- what a step after these is answered; finalisation, which is of no core, is done
 unfoldable pub reply_of : Board → List Event → Event → Reply
-reply_of board past (Check number) = reply_to board past (Check number) number
-reply_of board past (Local number) = reply_to board past (Local number) number
-reply_of board past (Store number) = reply_to board past (Store number) number
-reply_of board past (Offline number) = reply_to board past (Offline number) number
-reply_of board past Finalise = Done
-
--- the machine is of this board
-pub record IsOf (board : Board) (world : World) : Type 0 where
-  pub cores : world.cores ≡ board.cores
-  pub boot : world.boot ≡ board.boot
-  pub overrides : world.overrides ≡ board.overrides
+reply_of board steps event =
+    option_map_or (λ core. reply_from (held_back board steps core) (held_back board (event ∷ steps) core)) (core_of event) Done
 
 -- the machine is that of the board after these steps
-pub record IsAfter (board : Board) (past : List Event) (world : World) : Type 0 where
-  pub of_board : IsOf board world
-  pub states : world.states ≡ states_after board past
-  pub final : world.final ≡ is_final past
-  pub halted : world.halted ≡ halt_of board past
+pub record IsAfter (board : Board) (steps : List Event) (world : World) : Type 0 where
+  pub of_board : world.board ≡ board
+  pub states : world.states ≡ states_after board steps
+  pub final : world.final ≡ is_final steps
+  pub halted : world.halted ≡ halt_of board steps

@@ -1,35 +1,31 @@
 -- A machine before its first step.
 use Rattle.std.specs.Prelude.{ℕ, false, ◌&&◌, List, [], ◌∷◌, length, replicate, slice_set, None}
-use Rattle.armcaps_tables.specs.Core.{Core}
-use Rattle.armcaps_tables.specs.Overriding.{FieldOverrides}
 use Rattle.armcaps_sanit.specs.System.{system_words}
 use Rattle.armcaps_caps.specs.Capabilities.{is_boot_scope, is_local_scope}
 use Rattle.armcaps_caps.specs.Rows.{capability_count}
+use Rattle.armcaps_board.specs.Board.{Board, boot_core}
 use Rattle.armcaps_boot.specs.declared.core_state.CoreState.{CoreState}
 use Rattle.armcaps_boot.specs.declared.core_state.CoreState.TheVariants.{Absent, Admitted}
 use Rattle.armcaps_boot.specs.Causes.{has_capability}
 use Rattle.armcaps_boot.specs.Numbers.{numbers}
-use Rattle.armcaps_board.specs.Board.{core_at}
 use Rattle.armcaps_boot.specs.World.{World}
 
--- only the boot core is admitted
+-- only the boot core is admitted, of so many cores
 abbrev pub first_states : ℕ → ℕ → List CoreState
 first_states count boot = slice_set (replicate count Absent) boot (Admitted false)
 
 -- the system is the boot core's alone: its words, the local capabilities that it has, those of boot scope, and its vector lengths
-abbrev pub first_world : List Core → ℕ → FieldOverrides → World
-first_world cores boot overrides = record {
-  cores = cores;
-  boot = boot;
-  overrides = overrides;
-  system = system_words overrides (core_at cores boot ∷ []);
-  states = first_states (length cores) boot;
+abbrev pub first_world : Board → World
+first_world board = record {
+  board = board;
+  system = system_words board.overrides (boot_core board ∷ []);
+  states = first_states (length board.cores) board.boot;
   halted = None;
   final = false;
-  noted = numbers capability_count (λ n. is_local_scope n && has_capability overrides (core_at cores boot) (core_at cores boot) n);
-  enabled = numbers capability_count (λ n. is_boot_scope n && has_capability overrides (core_at cores boot) (core_at cores boot) n);
+  noted = numbers capability_count (λ n. is_local_scope n && has_capability board (boot_core board) n);
+  enabled = numbers capability_count (λ n. is_boot_scope n && has_capability board (boot_core board) n);
   hwcaps = record { hwcap = 0; hwcap2 = 0 };
-  ctr = 0;
-  kept = (core_at cores boot).lengths;
+  final_ctr = 0;
+  common_lengths = (boot_core board).lengths;
   lengths = 0;
 }

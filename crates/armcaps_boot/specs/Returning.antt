@@ -8,12 +8,14 @@ use Rattle.armcaps_boot.specs.Causes.{has_length}
 use Rattle.armcaps_boot.specs.States.{is_admitted, is_updated}
 use Rattle.armcaps_boot.specs.World.{World, state_at}
 
+-- the core ran, and went
 abbrev pub is_gone : CoreState → Bool
 is_gone (Gone late) = true
 is_gone _ = false
 
+-- the core has made its check, and no further step
 abbrev pub is_checked : CoreState → Bool
-is_checked (Checked past) = true
+is_checked (Checked was) = true
 is_checked _ = false
 
 -- whether a step is the next one of a core that was admitted, went, and comes back
@@ -29,6 +31,6 @@ pub record KeepsSystem (old new : World) : Type 0 where
   pub noted : new.noted ≡ old.noted
   pub enabled : new.enabled ≡ old.enabled
   pub hwcaps : new.hwcaps ≡ old.hwcaps
-  pub ctr : new.ctr ≡ old.ctr
-  pub kept : (length : ℕ) → has_length new.kept length ≡ has_length old.kept length
+  pub final_ctr : new.final_ctr ≡ old.final_ctr
+  pub common_lengths : (length : ℕ) → has_length new.common_lengths length ≡ has_length old.common_lengths length
   pub lengths : new.lengths ≡ old.lengths

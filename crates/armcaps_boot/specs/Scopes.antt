@@ -2,7 +2,7 @@
 -- system word.
 use Rattle.std.specs.Prelude.{ℕ, Bool, List, Option, true, false, not, if◌then◌else◌}
 use Rattle.armcaps_tables.specs.Core.{Core}
-use Rattle.armcaps_tables.specs.Overriding.{FieldOverrides}
+use Rattle.armcaps_board.specs.Board.{Board, boot_core}
 use Rattle.armcaps_caps.specs.Capabilities.{core_has_capability, is_boot_scope, is_local_scope, system_has_capability}
 use Rattle.armcaps_caps.specs.Set.{holds}
 use Rattle.armcaps_hwcap.specs.declared.hw_set.HwSet.{HwSet}
@@ -28,18 +28,23 @@ enabled_by enabled noted words number =
     else if is_local_scope number then holds noted number
     else system_has_capability words number
 
+-- whether a core has a capability, where its cache type is compared with this word of CTR_EL0
+abbrev pub has_by : Board → ℕ → Core → ℕ → Bool
+has_by board ctr core number = core_has_capability board.overrides (boot_core board) ctr core number
+
 -- the first conflict with a set of capabilities
-unfoldable pub conflict_with : Bool → ℕ → FieldOverrides → Core → Core → ℕ → Option ℕ
-conflict_with boot_scope enabled overrides boot core ctr =
-    first_conflict (in_scope boot_scope) (holds enabled) (core_has_capability overrides boot ctr core)
+unfoldable pub conflict_with : Bool → ℕ → Board → Core → ℕ → Option ℕ
+conflict_with boot_scope enabled board core ctr =
+    first_conflict (in_scope boot_scope) (holds enabled) (has_by board ctr core)
 
 -- the first lack of what a system has
-unfoldable pub lack_of : ℕ → HwSet → ℕ → FieldOverrides → Core → Core → ℕ → Option Cause
-lack_of enabled hwcaps lengths overrides boot core ctr =
-    cause_of_lack (conflict_with false enabled overrides boot core ctr)
-    (first_lacking 0 hwcap_count (set_has_row hwcaps) (core_has_hwcap overrides core)) (first_lacking 1 16 (has_length lengths) (has_length core.lengths))
+unfoldable pub lack_of : ℕ → HwSet → ℕ → Board → Core → ℕ → Option Cause
+lack_of enabled hwcaps lengths board core ctr =
+    cause_of_lack (conflict_with false enabled board core ctr)
+    (first_lacking 0 hwcap_count (set_has_row hwcaps) (core_has_hwcap board.overrides core))
+    (first_lacking 1 16 (has_length lengths) (has_length core.lengths))
 
 -- what holds a core back at its check
-unfoldable pub held_at_check : ℕ → FieldOverrides → Core → Core → ℕ → Option Cause
-held_at_check enabled overrides boot core ctr =
-    cause_of_check boot core (conflict_with true enabled overrides boot core ctr)
+unfoldable pub held_at_check : ℕ → Board → Core → ℕ → Option Cause
+held_at_check enabled board core ctr =
+    cause_of_check (boot_core board) core (conflict_with true enabled board core ctr)

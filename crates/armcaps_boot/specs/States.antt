@@ -11,8 +11,8 @@ past_admitted late = if late then Late else Early
 
 -- as what a core in this state was admitted
 abbrev pub past_of : CoreState → Past
-past_of (Checked past) = past
-past_of (Updated past) = past
+past_of (Checked was) = was
+past_of (Updated was) = was
 past_of (Admitted late) = past_admitted late
 past_of (Offline late) = past_admitted late
 past_of _ = Never
@@ -46,19 +46,19 @@ is_late state = is_late_past (past_of state)
 
 -- the core has made its check and not yet its store
 abbrev pub is_in_flight : CoreState → Bool
-is_in_flight (Checked past) = true
-is_in_flight (Updated past) = true
+is_in_flight (Checked was) = true
+is_in_flight (Updated was) = true
 is_in_flight _ = false
 
 -- the core's own capabilities were noted or verified, and it hasn't made its store yet
 abbrev pub is_updated : CoreState → Bool
-is_updated (Updated past) = true
+is_updated (Updated was) = true
 is_updated _ = false
 
 -- the core has passed its check
 abbrev pub has_passed : CoreState → Bool
-has_passed (Checked past) = true
-has_passed (Updated past) = true
+has_passed (Checked was) = true
+has_passed (Updated was) = true
 has_passed (Admitted late) = true
 has_passed (Offline late) = true
 has_passed _ = false

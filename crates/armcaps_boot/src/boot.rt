@@ -1,17 +1,17 @@
-ghost use Rattle.std.specs.Prelude.{◌≡◌, ◌<◌, ◌≤◌, ◌&&◌, ℕ, true, false, length, slice_get, None, Ok, Err, IfOk, IfErr, OnErr, nat_lt, if◌then◌else◌};
+ghost use Rattle.std.specs.Prelude.{◌≡◌, ◌<◌, ◌≤◌, ◌&&◌, ℕ, true, false, length, slice_get, None, Ok, Err, IfOk, IfErr, OnErr, nat_lt};
 ghost use Rattle.std.specs.Option.{option_copied};
 ghost use Rattle.armcaps_enc.specs.declared.register.SysReg.TheVariants.{CtrEl0};
 ghost use Rattle.armcaps_tables.specs.Core.{word_at};
-ghost use Rattle.armcaps_sanit.specs.System.{IsSystemOf};
-ghost use Rattle.armcaps_tables.specs.Overriding.{override_of};
+ghost use Rattle.armcaps_sanit.specs.System.{IsSystemOf, system_words};
 ghost use Rattle.armcaps_caps.specs.Capabilities.{is_erratum_class, is_system_scope};
 ghost use Rattle.armcaps_caps.specs.Rows.{capability_count};
+ghost use Rattle.armcaps_board.specs.Board.{IsCtrPlain};
 ghost use Rattle.armcaps_boot.specs.Answers.{answer_of};
 ghost use Rattle.armcaps_boot.specs.First.{first_states, first_world};
 ghost use Rattle.armcaps_boot.specs.Numbers.{is_in};
 
 use crate::core_state::CoreState;
-use armcaps_board::Event;
+use armcaps_board::{Board, Event};
 use crate::halt::Halt;
 use crate::machine::Machine;
 use crate::refused::{BootRefused, StepRefused};
@@ -46,11 +46,12 @@ impl Model for Boot {
 }
 
 impl Boot {
-    ghost use Rattle.armcaps_boot.specs.Changes.{world_after};
+    ghost use Rattle.armcaps_boot.specs.Causes.{has_length, is_system_length};
+    ghost use Rattle.armcaps_boot.specs.Changes.{hwcaps_over, world_after};
     ghost use Rattle.armcaps_boot.specs.Facts.{Facts};
     ghost use Rattle.armcaps_boot.specs.Returning.{comes_back, KeepsSystem};
     ghost use Rattle.armcaps_boot.specs.Safety.{core_has, is_enabled, is_enabled_at_first, WasAdmitted};
-    ghost use Rattle.armcaps_boot.specs.World.{admitted_cores, boot_of, early_cores};
+    ghost use Rattle.armcaps_boot.specs.World.{admitted_cores, early_cores};
 
     /// A machine before its first step: the boot core is admitted, and no other core is there. All memory that the machine
     /// ever takes is taken here. `boot` is the boot core's number; no field of CTR_EL0 may be overridden.
@@ -61,8 +62,9 @@ impl Boot {
         overrides: Overrides,
     ) -> Result<Boot, BootRefused>
         requires few { length cores.items ≤ 512 }
-        requires plain_ctr { (index : ℕ) → override_of overrides CtrEl0 index ≡ None }
-        ensures first { IfOk result (λ made. made ≡ first_world cores.items boot overrides) }
+        requires plain_ctr { IsCtrPlain overrides }
+        ensures first { IfOk result (λ made. made
+            ≡ first_world (record { cores = cores.items; boot = boot; overrides = overrides })) }
         ensures facts { IfOk result (λ made. Facts made) }
         ensures no_boot_core { length cores.items ≤ boot → result ≡ Err BootRefused.NoBootCore }
         ensures boot_core { boot < length cores.items → IfErr result (λ refused. refused ≡ BootRefused.Memory) }
@@ -71,9 +73,16 @@ impl Boot {
             return Err(BootRefused::NoBootCore);
         }
         match states_at_first(alloc, cores.len(), boot) {
-            Ok(states) => Ok(Boot {
-                machine: Machine::first(cores, boot, overrides, states),
-            }),
+            Ok(states) => {
+                let board = Board {
+                    cores,
+                    boot,
+                    overrides,
+                };
+                Ok(Boot {
+                    machine: Machine::first(board, states),
+                })
+            }
             Err(_) => Err(BootRefused::Memory),
         }
     }
@@ -100,36 +109,36 @@ impl Boot {
 
     /// The number of cores.
     pub fn count(&self) -> u32
-        ensures { result ≡ length self.now.cores }
+        ensures { result ≡ length self.now.board.cores }
     {
-        self.machine.cores.len() as u32
+        self.machine.board.cores.len() as u32
     }
 
     /// The number of the boot core.
     pub fn boot_core(&self) -> u32
-        ensures { result ≡ self.now.boot }
+        ensures { result ≡ self.now.board.boot }
     {
-        self.machine.boot
+        self.machine.board.boot
     }
 
     /// A core, by its number.
     pub fn core(&self, core: u32) -> Option<&CoreRegs>
-        ensures { option_copied result ≡ slice_get self.now.cores core }
+        ensures { option_copied result ≡ slice_get self.now.board.cores core }
     {
-        self.machine.cores.get(core as usize)
+        self.machine.board.cores.get(core as usize)
     }
 
     /// The values that stand in for fields.
     pub fn overrides(&self) -> &Overrides
-        ensures { result.now ≡ self.now.overrides }
+        ensures { result.now ≡ self.now.board.overrides }
     {
-        &self.machine.overrides
+        &self.machine.board.overrides
     }
 
     /// The system registers: over the cores that were ever admitted.
     pub fn system(&self) -> &System
         ensures system { result.now ≡ self.now.system }
-        ensures stands { IsSystemOf self.now.overrides (admitted_cores self.now) result.now }
+        ensures stands { IsSystemOf self.now.board.overrides (admitted_cores self.now.board self.now.states) result.now }
     {
         &self.machine.system
     }
@@ -155,41 +164,53 @@ impl Boot {
         self.machine.is_final
     }
 
-    /// Whether the capability of this number is enabled: before finalisation those of boot scope alone. Each core that was
-    /// ever admitted has each system feature that is enabled, and each workaround that such a core needs is enabled.
+    /// Whether the capability of this number is enabled: before finalisation those of boot scope alone, and never one from
+    /// the number of capabilities on. Each core that was ever admitted has each system feature that is enabled, and each
+    /// workaround that such a core needs is enabled.
     pub fn enabled(&self, number: u16) -> bool
         ensures member { result ≡ is_in self.now.enabled number }
         ensures before { self.now.final ≡ false → result ≡ is_enabled_at_first self.now number }
-        ensures after { self.now.final ≡ true → number < capability_count → result ≡ is_enabled self.now number }
-        ensures supported { self.now.final ≡ true → number < capability_count → is_system_scope number ≡ true → result ≡ true
+        ensures after { self.now.final ≡ true → result ≡ is_enabled self.now number }
+        ensures beyond { capability_count ≤ number → result ≡ false }
+        ensures supported { self.now.final ≡ true → is_system_scope number ≡ true → result ≡ true
             → (core : ℕ) → WasAdmitted self.now core → core_has self.now core number ≡ true }
-        ensures needed { self.now.final ≡ true → number < capability_count → is_erratum_class number ≡ true
+        ensures needed { self.now.final ≡ true → is_erratum_class number ≡ true
             → (core : ℕ) → WasAdmitted self.now core → core_has self.now core number ≡ true → result ≡ true }
     {
         number < CAPABILITIES && self.machine.enabled.contains(number)
     }
 
-    /// The hwcaps: none before finalisation.
+    /// The hwcaps: none before finalisation, and then those over the early cores.
     pub fn hwcaps(&self) -> HwSet
-        ensures { result ≡ self.now.hwcaps }
+        ensures kept { result ≡ self.now.hwcaps }
+        ensures before { self.now.final ≡ false → result ≡ record { hwcap = 0; hwcap2 = 0 } }
+        ensures after { self.now.final ≡ true
+            → result ≡ hwcaps_over self.now.board (early_cores self.now.board self.now.states) }
     {
         self.machine.hwcaps
     }
 
-    /// The word of CTR_EL0 that the system had at finalisation, and before that the present one.
+    /// The word of CTR_EL0 that the system had at finalisation, over the early cores, and before that the present one.
     pub fn final_ctr(&self) -> u64
-        ensures { result ≡ (if self.now.final then self.now.ctr else word_at self.now.system CtrEl0) }
+        ensures before { self.now.final ≡ false → result ≡ word_at self.now.system CtrEl0 }
+        ensures kept { self.now.final ≡ true → result ≡ self.now.final_ctr }
+        ensures after { self.now.final ≡ true → result
+            ≡ word_at (system_words self.now.board.overrides (early_cores self.now.board self.now.states)) CtrEl0 }
     {
         if self.machine.is_final {
-            self.machine.ctr
+            self.machine.final_ctr
         } else {
             self.machine.system.word(SysReg::CtrEl0)
         }
     }
 
-    /// The vector lengths told to programs, bit 0 for 128 bits: none before finalisation.
+    /// The vector lengths told to programs, bit 0 for 128 bits: none before finalisation, and then those that every early
+    /// core has, where SVE is enabled.
     pub fn vector_lengths(&self) -> u16
-        ensures { result ≡ self.now.lengths }
+        ensures kept { result ≡ self.now.lengths }
+        ensures before { self.now.final ≡ false → result ≡ 0 }
+        ensures after { self.now.final ≡ true → (length : ℕ)
+            → has_length result length ≡ is_system_length self.now.board (early_cores self.now.board self.now.states) length }
     {
         self.machine.lengths
     }

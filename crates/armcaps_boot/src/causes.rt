@@ -1,5 +1,5 @@
-ghost use Rattle.std.specs.Prelude.{◌≡◌, ◌≤◌, ◌<◌, ◌&&◌, not, nat_lt, IfSome, Option};
-ghost use Rattle.armcaps_caps.specs.Capabilities.{conflicts, core_has_capability};
+ghost use Rattle.std.specs.Prelude.{◌≡◌, ◌≤◌, ◌<◌, ◌&&◌, not, nat_lt, length, IfSome, Option};
+ghost use Rattle.armcaps_caps.specs.Capabilities.{conflicts};
 ghost use Rattle.armcaps_caps.specs.Rows.{capability_count};
 ghost use Rattle.armcaps_caps.specs.Set.{holds};
 ghost use Rattle.armcaps_hwcap.specs.Hwcaps.{core_has_hwcap};
@@ -7,14 +7,15 @@ ghost use Rattle.armcaps_hwcap.specs.Rows.{hwcap_count};
 ghost use Rattle.armcaps_hwcap.specs.Words.{set_has_row};
 ghost use Rattle.armcaps_boot.specs.Causes as causes;
 ghost use Rattle.armcaps_boot.specs.Numbers.{first_of};
-ghost use Rattle.armcaps_boot.specs.Scopes.{conflict_with, held_at_check, in_scope, lack_of};
+ghost use Rattle.armcaps_boot.specs.Scopes.{conflict_with, has_by, held_at_check, in_scope, lack_of};
 
 use crate::cause::Cause;
 use armcaps_bits::Bits;
+use armcaps_board::Board;
 use armcaps_caps::{CAPABILITIES, CapSet, conflict, has, is_boot_scope, is_panic};
 use armcaps_enc::SysReg;
 use armcaps_hwcap::{HWCAPS, HwSet, core_has};
-use armcaps_tables::{CoreRegs, Overrides};
+use armcaps_tables::CoreRegs;
 
 // Whether a core's ASIDs have fewer bits than the boot core's.
 fn has_fewer_asids(boot: &CoreRegs, core: &CoreRegs) -> bool
@@ -35,42 +36,42 @@ fn asid_bits(core: &CoreRegs) -> u32
 }
 
 /// Why a core is held back at its check.
-pub(crate) fn early_cause(
+pub(crate) fn cause_at_check(
     enabled: &CapSet,
-    overrides: &Overrides,
-    boot: &CoreRegs,
+    board: &Board,
     core: &CoreRegs,
     ctr: u64,
 ) -> Option<Cause>
-    ensures cause { result ≡ held_at_check enabled.now overrides.now boot.now core.now ctr }
+    requires { board.now.boot < length board.now.cores }
+    ensures cause { result ≡ held_at_check enabled.now board.now core.now ctr }
     ensures numbered { IfSome result causes.IsNumbered }
 {
-    if has_fewer_asids(boot, core) {
+    if has_fewer_asids(board.boot_core(), core) {
         return Some(Cause::Asid);
     }
-    match first_conflict(true, enabled, overrides, boot, core, ctr) {
+    match first_conflict(true, enabled, board, core, ctr) {
         Some(number) => Some(Cause::Cap(number)),
         None => None,
     }
 }
 
-/// Why a core that comes after finalisation is held back: the first thing that it lacks of what the system has.
-pub(crate) fn first_lack(
+/// Why a core that is verified after finalisation is held back: the first thing that it lacks of what the system has.
+pub(crate) fn cause_at_verification(
     enabled: &CapSet,
     hwcaps: &HwSet,
     lengths: u16,
-    overrides: &Overrides,
-    boot: &CoreRegs,
+    board: &Board,
     core: &CoreRegs,
     ctr: u64,
 ) -> Option<Cause>
-    ensures cause { result ≡ lack_of enabled.now hwcaps.now lengths overrides.now boot.now core.now ctr }
+    requires { board.now.boot < length board.now.cores }
+    ensures cause { result ≡ lack_of enabled.now hwcaps.now lengths board.now core.now ctr }
     ensures numbered { IfSome result causes.IsNumbered }
 {
-    if let Some(number) = first_conflict(false, enabled, overrides, boot, core, ctr) {
+    if let Some(number) = first_conflict(false, enabled, board, core, ctr) {
         return Some(Cause::Cap(number));
     }
-    if let Some(index) = first_lacking_hwcap(hwcaps, overrides, core) {
+    if let Some(index) = first_lacking_hwcap(hwcaps, board, core) {
         return Some(Cause::Hwcap(index));
     }
     match first_lacking_length(lengths, core) {
@@ -84,16 +85,16 @@ pub(crate) fn first_lack(
 fn first_conflict(
     of_boot_scope: bool,
     enabled: &CapSet,
-    overrides: &Overrides,
-    boot: &CoreRegs,
+    board: &Board,
     core: &CoreRegs,
     ctr: u64,
 ) -> Option<u16>
-    ensures first { result ≡ conflict_with of_boot_scope enabled.now overrides.now boot.now core.now ctr }
+    requires { board.now.boot < length board.now.cores }
+    ensures first { result ≡ conflict_with of_boot_scope enabled.now board.now core.now ctr }
     ensures within { IfSome result (λ number. number < capability_count) }
 {
     for number in 0..CAPABILITIES {
-        if is_in_conflict(number, of_boot_scope, enabled, overrides, boot, core, ctr) {
+        if is_in_conflict(number, of_boot_scope, enabled, board, core, ctr) {
             return Some(number);
         }
     }
@@ -105,19 +106,20 @@ fn is_in_conflict(
     number: u16,
     of_boot_scope: bool,
     enabled: &CapSet,
-    overrides: &Overrides,
-    boot: &CoreRegs,
+    board: &Board,
     core: &CoreRegs,
     ctr: u64,
 ) -> bool
-    requires { number < capability_count }
-    ensures { result ≡ (in_scope of_boot_scope number && conflicts number (holds enabled.now number) (core_has_capability overrides.now boot.now ctr core.now number)) }
+    requires within { number < capability_count }
+    requires boot_core { board.now.boot < length board.now.cores }
+    ensures { result ≡ (in_scope of_boot_scope number
+        && conflicts number (holds enabled.now number) (has_by board.now ctr core.now number)) }
 {
     is_in_scope(of_boot_scope, number)
         && conflict(
             number,
             enabled.contains(number),
-            has(number, boot, core, overrides, ctr),
+            has(number, board.boot_core(), core, &board.overrides, ctr),
         )
 }
 
@@ -133,11 +135,12 @@ fn is_in_scope(of_boot_scope: bool, number: u16) -> bool
 }
 
 // The first hwcap of these that a core lacks.
-fn first_lacking_hwcap(hwcaps: &HwSet, overrides: &Overrides, core: &CoreRegs) -> Option<u16>
-    ensures { result ≡ first_of 0 hwcap_count (λ index. set_has_row hwcaps.now index && not (core_has_hwcap overrides.now core.now index)) }
+fn first_lacking_hwcap(hwcaps: &HwSet, board: &Board, core: &CoreRegs) -> Option<u16>
+    ensures { result ≡ first_of 0 hwcap_count
+        (λ index. set_has_row hwcaps.now index && not (core_has_hwcap board.now.overrides core.now index)) }
 {
     for index in 0..HWCAPS as u16 {
-        if is_lacking(index as usize, hwcaps, overrides, core) {
+        if is_lacking(index as usize, hwcaps, board, core) {
             return Some(index);
         }
     }
@@ -145,16 +148,17 @@ fn first_lacking_hwcap(hwcaps: &HwSet, overrides: &Overrides, core: &CoreRegs) -
 }
 
 // Whether the hwcap at this place of the table is one of these and a core lacks it.
-fn is_lacking(index: usize, hwcaps: &HwSet, overrides: &Overrides, core: &CoreRegs) -> bool
+fn is_lacking(index: usize, hwcaps: &HwSet, board: &Board, core: &CoreRegs) -> bool
     requires { index < hwcap_count }
-    ensures { result ≡ (set_has_row hwcaps.now index && not (core_has_hwcap overrides.now core.now index)) }
+    ensures { result ≡ (set_has_row hwcaps.now index && not (core_has_hwcap board.now.overrides core.now index)) }
 {
-    hwcaps.contains(index) && !core_has(index, overrides, core)
+    hwcaps.contains(index) && !core_has(index, &board.overrides, core)
 }
 
 // The first vector length of these that a core lacks.
 fn first_lacking_length(lengths: u16, core: &CoreRegs) -> Option<u8>
-    ensures { result ≡ first_of 1 16 (λ length. causes.has_length lengths length && not (causes.has_length core.now.lengths length)) }
+    ensures { result ≡ first_of 1 16
+        (λ length. causes.has_length lengths length && not (causes.has_length core.now.lengths length)) }
 {
     for length in 1..17u8 {
         if is_short_of(length, lengths, core.vls()) {

@@ -1,5 +1,4 @@
 ghost use Rattle.std.specs.Prelude.{◌≡◌, ◌<◌, ◌≤◌, ◌&&◌, ◌||◌, ℕ, None, Some, length};
-ghost use Rattle.armcaps_caps.specs.Capabilities.{core_has_capability};
 ghost use Rattle.armcaps_caps.specs.Rows.{capability_count};
 ghost use Rattle.armcaps_caps.specs.Set.{holds};
 ghost use Rattle.armcaps_boot.specs.Answers as answers;
@@ -7,26 +6,27 @@ ghost use Rattle.armcaps_boot.specs.Scopes as asked;
 
 use crate::core_state::CoreState;
 use crate::moving::is_in_flight;
+use armcaps_board::Board;
 use armcaps_caps::{CAPABILITIES, CapSet, has, is_boot_scope, is_local_scope, system_has};
 use armcaps_sanit::System;
-use armcaps_tables::{CoreRegs, Overrides};
+use armcaps_tables::CoreRegs;
 
 /// A set of capabilities, with those of boot scope, or else the local ones, that a core has. Its cache type is compared with
 /// that of `ctr`.
 pub(crate) fn with_own(
     given: CapSet,
     of_boot_scope: bool,
-    overrides: &Overrides,
-    boot: &CoreRegs,
+    board: &Board,
     core: &CoreRegs,
     ctr: u64,
 ) -> CapSet
+    requires { board.now.boot < length board.now.cores }
     ensures { (n : ℕ) → n < capability_count
-        → holds result n ≡ (holds given n || (asked.own_scope of_boot_scope n && core_has_capability overrides.now boot.now ctr core.now n)) }
+        → holds result n ≡ (holds given n || (asked.own_scope of_boot_scope n && asked.has_by board.now ctr core.now n)) }
 {
     let mut set = given;
     for number in 0..CAPABILITIES {
-        if is_own(number, of_boot_scope, overrides, boot, core, ctr) {
+        if is_own(number, of_boot_scope, board, core, ctr) {
             set.insert(number);
         }
     }
@@ -37,20 +37,20 @@ pub(crate) fn with_own(
 fn is_own(
     number: u16,
     of_boot_scope: bool,
-    overrides: &Overrides,
-    boot: &CoreRegs,
+    board: &Board,
     core: &CoreRegs,
     ctr: u64,
 ) -> bool
-    requires { number < capability_count }
-    ensures { result ≡ (asked.own_scope of_boot_scope number && core_has_capability overrides.now boot.now ctr core.now number) }
+    requires within { number < capability_count }
+    requires boot_core { board.now.boot < length board.now.cores }
+    ensures { result ≡ (asked.own_scope of_boot_scope number && asked.has_by board.now ctr core.now number) }
 {
     let in_scope = if of_boot_scope {
         is_boot_scope(number)
     } else {
         is_local_scope(number)
     };
-    in_scope && has(number, boot, core, overrides, ctr)
+    in_scope && has(number, board.boot_core(), core, &board.overrides, ctr)
 }
 
 /// The capabilities that are enabled at finalisation: those of boot scope that were enabled before, the local ones that were

@@ -1,10 +1,10 @@
 ghost use Rattle.std.specs.Prelude.{◌≡◌, ◌==◌, ◌<◌, false, true, length, Some, None, Option, IfSome, Ok, Err, MatchResult, if◌then◌else◌};
 ghost use Rattle.armcaps_boot.specs.Answers as answers;
-ghost use Rattle.armcaps_boot.specs.Causes.{IsNumbered};
+ghost use Rattle.armcaps_boot.specs.Causes as causes;
 ghost use Rattle.armcaps_boot.specs.Changes as changes;
 ghost use Rattle.armcaps_boot.specs.Facts.{Facts};
 ghost use Rattle.armcaps_boot.specs.First.{first_states, first_world};
-ghost use Rattle.armcaps_boot.specs.Machine.{world_of};
+ghost use Rattle.armcaps_boot.specs.Machine.{IsStepped, world_of};
 ghost use Rattle.armcaps_tables.specs.Overriding.{AllFit};
 ghost use Rattle.armcaps_caps.specs.Rows.{capability_count};
 ghost use Rattle.armcaps_caps.specs.Set.{holds};
@@ -12,19 +12,18 @@ ghost use Rattle.armcaps_boot.specs.Numbers.{numbers};
 ghost use Rattle.armcaps_boot.specs.World.{state_at};
 
 use crate::cause::Cause;
-use crate::causes::{early_cause, first_lack, stops_machine};
+use crate::causes::{cause_at_check, cause_at_verification, stops_machine};
 use crate::core_state::CoreState;
-use armcaps_board::Event;
 use crate::gathering::{decided, first_in_flight, with_own};
 use crate::halt::Halt;
 use crate::moving::{admitted_after, past_of};
 use crate::refused::StepRefused;
 use crate::reply::Reply;
+use armcaps_board::{Board, Event};
 use armcaps_caps::CapSet;
 use armcaps_enc::SysReg;
 use armcaps_hwcap::{HwSet, of_system};
 use armcaps_sanit::System;
-use armcaps_tables::{CoreRegs, Overrides};
 
 // The number of the capability SVE.
 const SVE: u16 = 36;
@@ -32,9 +31,7 @@ const SVE: u16 = 36;
 /// A machine that is brought up, as plain data.
 #[derive(Drop)]
 pub struct Machine {
-    pub(crate) cores: Vec<CoreRegs>,
-    pub(crate) boot: u32,
-    pub(crate) overrides: Overrides,
+    pub(crate) board: Board,
     pub(crate) system: System,
     pub(crate) states: Vec<CoreState>,
     pub(crate) halted: Option<Halt>,
@@ -44,35 +41,28 @@ pub struct Machine {
     pub(crate) enabled: CapSet,
     pub(crate) hwcaps: HwSet,
     /// The word of CTR_EL0 at finalisation.
-    pub(crate) ctr: u64,
+    pub(crate) final_ctr: u64,
     /// The vector lengths that all early cores have.
-    pub(crate) kept: u16,
+    pub(crate) common_lengths: u16,
     /// Those told to programs.
     pub(crate) lengths: u16,
 }
 
 impl Machine {
     /// A machine before its first step, whose cores have these states: only the boot core is admitted.
-    pub(crate) fn first(
-        cores: Vec<CoreRegs>,
-        boot: u32,
-        overrides: Overrides,
-        states: Vec<CoreState>,
-    ) -> Machine
-        requires within { boot < length cores.items }
-        requires states { states.items ≡ first_states (length cores.items) boot }
-        ensures first { world_of result ≡ first_world cores.items boot overrides }
-        ensures fit { AllFit overrides }
+    pub(crate) fn first(board: Board, states: Vec<CoreState>) -> Machine
+        requires within { board.boot < length board.cores }
+        requires states { states.items ≡ first_states (length board.cores) board.boot }
+        ensures first { world_of result ≡ first_world board }
+        ensures fit { AllFit board.overrides }
     {
-        let core = cores[boot as usize];
+        let core = *board.boot_core();
         let ctr = core.get(SysReg::CtrEl0);
-        let system = System::new(&core, &overrides);
-        let noted = with_own(CapSet::empty(), false, &overrides, &core, &core, ctr);
-        let enabled = with_own(CapSet::empty(), true, &overrides, &core, &core, ctr);
+        let system = System::new(&core, &board.overrides);
+        let noted = with_own(CapSet::empty(), false, &board, &core, ctr);
+        let enabled = with_own(CapSet::empty(), true, &board, &core, ctr);
         Machine {
-            cores,
-            boot,
-            overrides,
+            board,
             system,
             states,
             halted: None,
@@ -83,8 +73,8 @@ impl Machine {
                 hwcap: 0,
                 hwcap2: 0,
             },
-            ctr: 0,
-            kept: core.vls(),
+            final_ctr: 0,
+            common_lengths: core.vls(),
             lengths: 0,
         }
     }
@@ -113,8 +103,7 @@ impl Machine {
     fn check(&mut self, core: u32) -> Result<Reply, StepRefused>
         requires facts { Facts (world_of self.old) }
         requires running { self.old.halted ≡ None }
-        ensures answer { result ≡ answers.live_answer (world_of self.old) (Event.Check core) }
-        ensures after { world_of self.new ≡ changes.world_after (world_of self.old) (Event.Check core) result }
+        ensures { IsStepped self.old self.new (Event.Check core) result }
     {
         let state = self.state_of(core)?;
         match state {
@@ -133,8 +122,7 @@ impl Machine {
     fn local(&mut self, core: u32) -> Result<Reply, StepRefused>
         requires facts { Facts (world_of self.old) }
         requires running { self.old.halted ≡ None }
-        ensures answer { result ≡ answers.live_answer (world_of self.old) (Event.Local core) }
-        ensures after { world_of self.new ≡ changes.world_after (world_of self.old) (Event.Local core) result }
+        ensures { IsStepped self.old self.new (Event.Local core) result }
     {
         let state = self.state_of(core)?;
         match state {
@@ -154,16 +142,15 @@ impl Machine {
     fn store(&mut self, core: u32) -> Result<Reply, StepRefused>
         requires facts { Facts (world_of self.old) }
         requires running { self.old.halted ≡ None }
-        ensures answer { result ≡ answers.live_answer (world_of self.old) (Event.Store core) }
-        ensures after { world_of self.new ≡ changes.world_after (world_of self.old) (Event.Store core) result }
+        ensures { IsStepped self.old self.new (Event.Store core) result }
     {
         let state = self.state_of(core)?;
         match state {
             CoreState::Updated(past) => {
-                let regs = self.cores[core as usize];
+                let regs = *self.board.core(core);
                 self.system.admit(&regs);
                 if !self.is_final {
-                    self.kept &= regs.vls();
+                    self.common_lengths &= regs.vls();
                 }
                 self.states[core as usize] = admitted_after(self.is_final, past);
                 Ok(Reply::Done)
@@ -176,8 +163,7 @@ impl Machine {
     fn offline(&mut self, core: u32) -> Result<Reply, StepRefused>
         requires facts { Facts (world_of self.old) }
         requires running { self.old.halted ≡ None }
-        ensures answer { result ≡ answers.live_answer (world_of self.old) (Event.Offline core) }
-        ensures after { world_of self.new ≡ changes.world_after (world_of self.old) (Event.Offline core) result }
+        ensures { IsStepped self.old self.new (Event.Offline core) result }
     {
         let state = self.state_of(core)?;
         match state {
@@ -193,8 +179,7 @@ impl Machine {
     fn finalise(&mut self) -> Result<Reply, StepRefused>
         requires facts { Facts (world_of self.old) }
         requires running { self.old.halted ≡ None }
-        ensures answer { result ≡ answers.live_answer (world_of self.old) Event.Finalise }
-        ensures after { world_of self.new ≡ changes.world_after (world_of self.old) Event.Finalise result }
+        ensures { IsStepped self.old self.new Event.Finalise result }
     {
         if self.is_final {
             return Err(StepRefused::AlreadyFinal);
@@ -204,9 +189,9 @@ impl Machine {
         }
         self.enabled = decided(&self.enabled, &self.noted, &self.system);
         self.hwcaps = of_system(&self.system);
-        self.ctr = self.system.word(SysReg::CtrEl0);
+        self.final_ctr = self.system.word(SysReg::CtrEl0);
         self.lengths = if self.enabled.contains(SVE) {
-            self.kept
+            self.common_lengths
         } else {
             0
         };
@@ -218,14 +203,14 @@ impl Machine {
     fn state_of(&self, core: u32) -> Result<CoreState, StepRefused>
         requires { Facts (world_of self.now) }
         ensures { MatchResult result
-            (λ state. (core < length self.now.cores.items) × (state ≡ state_at self.now.states.items core)
+            (λ state. (core < length self.now.board.cores) × (state ≡ state_at self.now.states.items core)
             × ((answer : answers.Answer) → answers.numbered (world_of self.now) core answer ≡ answer))
             (λ refused. (answer : answers.Answer) → answers.numbered (world_of self.now) core answer ≡ Err refused) }
     {
-        if core as usize >= self.cores.len() {
+        if core as usize >= self.board.cores.len() {
             return Err(StepRefused::NoCore);
         }
-        if core == self.boot {
+        if core == self.board.boot {
             return Err(StepRefused::IsBootCore);
         }
         Ok(self.states[core as usize])
@@ -233,39 +218,30 @@ impl Machine {
 
     fn cause_at_check(&self, core: u32) -> Option<Cause>
         requires facts { Facts (world_of self.now) }
-        requires within { core < length self.now.cores.items }
-        ensures cause { result ≡ answers.cause_at_check (world_of self.now) core }
-        ensures numbered { IfSome result IsNumbered }
+        requires within { core < length self.now.board.cores }
+        ensures cause { result ≡ causes.cause_at_check self.now.board core }
+        ensures numbered { IfSome result causes.IsNumbered }
     {
         let ctr = self.system.word(SysReg::CtrEl0);
-        early_cause(
-            &self.enabled,
-            &self.overrides,
-            &self.cores[self.boot as usize],
-            &self.cores[core as usize],
-            ctr,
-        )
+        cause_at_check(&self.enabled, &self.board, self.board.core(core), ctr)
     }
 
     fn cause_at_local(&self, core: u32) -> Option<Cause>
         requires facts { Facts (world_of self.now) }
-        requires within { core < length self.now.cores.items }
+        requires within { core < length self.now.board.cores }
         ensures cause { result ≡ answers.cause_at_local (world_of self.now) core }
-        ensures numbered { IfSome result IsNumbered }
+        ensures numbered { IfSome result causes.IsNumbered }
     {
         if !self.is_final {
             return None;
         }
         let ctr = self.system.word(SysReg::CtrEl0);
-        let boot = &self.cores[self.boot as usize];
-        let regs = &self.cores[core as usize];
-        first_lack(
+        cause_at_verification(
             &self.enabled,
             &self.hwcaps,
             self.lengths,
-            &self.overrides,
-            boot,
-            regs,
+            &self.board,
+            self.board.core(core),
             ctr,
         )
     }
@@ -273,28 +249,21 @@ impl Machine {
     // The capabilities noted once a core shows its own: after finalisation none is noted any more.
     fn noted_with(&self, core: u32) -> CapSet
         requires facts { Facts (world_of self.now) }
-        requires within { core < length self.now.cores.items }
-        ensures { numbers capability_count (holds result) ≡ (if self.now.is_final then (world_of self.now).noted else changes.noted_with (world_of self.now) core) }
+        requires within { core < length self.now.board.cores }
+        ensures { numbers capability_count (holds result)
+            ≡ (if self.now.is_final then (world_of self.now).noted else changes.noted_with (world_of self.now) core) }
     {
         if self.is_final {
             return self.noted;
         }
         let ctr = self.system.word(SysReg::CtrEl0);
-        let boot = &self.cores[self.boot as usize];
-        with_own(
-            self.noted,
-            false,
-            &self.overrides,
-            boot,
-            &self.cores[core as usize],
-            ctr,
-        )
+        with_own(self.noted, false, &self.board, self.board.core(core), ctr)
     }
 
     // Parks a core, or lets it stop the machine.
     fn hold_back(&mut self, core: u32, cause: Cause) -> Reply
         requires within { core < length self.old.states.items }
-        requires numbered { IsNumbered cause }
+        requires numbered { causes.IsNumbered cause }
         ensures answer { Ok result ≡ answers.judged (Some cause) }
         ensures after { world_of self.new ≡ changes.held_world (world_of self.old) (Some core) result }
     {

@@ -20,7 +20,7 @@ pub(crate) fn past_of(state: CoreState) -> Past
     }
 }
 
-/// The state of a core that is admitted.
+/// The state of a core that is admitted, by as what it was admitted before.
 pub(crate) fn admitted_after(is_final: bool, past: Past) -> CoreState
     ensures { result ≡ changes.admitted_after is_final past }
 {

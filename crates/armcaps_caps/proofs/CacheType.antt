@@ -1,5 +1,5 @@
 -- The cache type of cores that don't differ from the boot core: a system's word compares as the boot core's word does.
-use Rattle.std.proofs.Common.{◌≡◌, ℕ, suc, zero, Bool, true, false, not, ◌&&◌, ◌||◌, List, [], ◌∷◌, Some, None, slice_get, refl, sym, ◌∙◌, ap, arith}
+use Rattle.std.proofs.Common.{◌≡◌, ◌<◌, ℕ, suc, zero, Bool, true, false, not, ◌&&◌, ◌||◌, List, [], ◌∷◌, length, Some, None, slice_get, refl, sym, ◌∙◌, ap, arith}
 use Rattle.std.specs.List.{list_any, All}
 use Rattle.std.specs.Ordering.{int_eq}
 use Rattle.std.proofs.lemmas.Bool.{false≢true}
@@ -75,7 +75,7 @@ all_same row index boot (core ∷ cores) at strict none (suc k) d within =
 -- the word over such cores differs from another word where the boot core's does
 word_compares : (overrides : FieldOverrides) (cores : List Core) (words : List ℕ) (boot other : ℕ)
     → IsSystemOf overrides cores words
-    → ((index : ℕ) → override_of overrides CtrEl0 index ≡ None)
+    → ((index : ℕ) → index < length (rows_of CtrEl0) → override_of overrides CtrEl0 index ≡ None)
     → list_any (λ core. word_varies CtrEl0 boot (core_word core CtrEl0)) cores ≡ false
     → word_varies CtrEl0 (word_at words CtrEl0) other ≡ word_varies CtrEl0 boot other
 word_compares overrides cores words boot other stands free none =
@@ -84,7 +84,7 @@ word_compares overrides cores words boot other stands free none =
     (λ strict.
     let kept : field_in row (word_at words CtrEl0) ≡ field_in row boot =
     system_field_at overrides cores words CtrEl0 index row stands at
-    ∙ system_field_same overrides cores CtrEl0 index row (field_in row boot) (free index) stands.some
+    ∙ system_field_same overrides cores CtrEl0 index row (field_in row boot) (free index (slice_get_within (rows_of CtrEl0) index row at)) stands.some
     (all_same row index boot cores at strict none) in
     ap (λ value. row.strict && not (int_eq value (field_in row other))) kept)
     (λ loose.
@@ -94,7 +94,7 @@ word_compares overrides cores words boot other stands free none =
 -- the same of the capability of the cache type
 pub cache_type_compares : (overrides : FieldOverrides) (cores : List Core) (words : List ℕ) (boot core : Core)
     → IsSystemOf overrides cores words
-    → ((index : ℕ) → override_of overrides CtrEl0 index ≡ None)
+    → ((index : ℕ) → index < length (rows_of CtrEl0) → override_of overrides CtrEl0 index ≡ None)
     → list_any (λ other. core_has_capability overrides boot (core_word boot CtrEl0) other 42) cores ≡ false
     → core_has_capability overrides boot (word_at words CtrEl0) core 42
     ≡ core_has_capability overrides boot (core_word boot CtrEl0) core 42

@@ -1,11 +1,12 @@
 //! What the definitions say whatever the values are. These functions have nothing to do when they run: each one's
 //! contract is a law.
 
-ghost use Rattle.std.specs.Prelude.{◌≡◌, ◌<◌, ◌++◌, ◌∷◌, ℕ, List, None, false, true};
+ghost use Rattle.std.specs.Prelude.{◌≡◌, ◌<◌, ◌++◌, ◌∷◌, ℕ, List, length, None, false, true};
 ghost use Rattle.std.specs.List.{list_any};
 ghost use Rattle.armcaps_enc.specs.declared.register.SysReg.TheVariants.{CtrEl0};
 ghost use Rattle.armcaps_tables.specs.Core.{Core, core_word, word_at};
 ghost use Rattle.armcaps_tables.specs.Overriding.{FieldOverrides, override_of};
+ghost use Rattle.armcaps_tables.specs.Rows.{rows_of};
 ghost use Rattle.armcaps_sanit.specs.System.{IsSystemOf};
 ghost use Rattle.armcaps_caps.specs.Capabilities.{capability_over, core_has_capability, system_has_capability};
 ghost use Rattle.armcaps_caps.specs.Rows.{capability_count};
@@ -29,7 +30,7 @@ pub fn each_core_has_what_all_have()
 pub fn cache_types_compare()
     ensures { (overrides : FieldOverrides) (cores : List Core) (words : List ℕ) (boot core : Core)
         → IsSystemOf overrides cores words
-        → ((index : ℕ) → override_of overrides CtrEl0 index ≡ None)
+        → ((index : ℕ) → index < length (rows_of CtrEl0) → override_of overrides CtrEl0 index ≡ None)
         → list_any (λ other. core_has_capability overrides boot (core_word boot CtrEl0) other 42) cores ≡ false
         → core_has_capability overrides boot (word_at words CtrEl0) core 42
         ≡ core_has_capability overrides boot (core_word boot CtrEl0) core 42 }

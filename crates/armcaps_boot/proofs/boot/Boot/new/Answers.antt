@@ -6,9 +6,8 @@ use Rattle.armcaps_boot.proofs.boot.Boot.new.Goals as goal
 pub invariant_of-result : goal.invariant_of-result
 invariant_of-result c =
     let within : c.args.boot < length c.args.cores.items = omega arith in
-    subst Facts (sym c.first.ensures.first) (first_facts c.args.cores.items c.args.boot c.args.overrides within c.requires.few c.first.ensures.fit c.requires.plain_ctr)
+    subst Facts (sym c.first.ensures.first)
+    (first_facts _ (record { within = within; few = c.requires.few; fit = c.first.ensures.fit; plain_ctr = c.requires.plain_ctr }))
 
 pub returns-in-Ok-clause-facts : goal.returns-in-Ok-clause-facts
-returns-in-Ok-clause-facts c =
-    let within : c.args.boot < length c.args.cores.items = omega arith in
-    subst Facts (sym c.first.ensures.first) (first_facts c.args.cores.items c.args.boot c.args.overrides within c.requires.few c.first.ensures.fit c.requires.plain_ctr)
+returns-in-Ok-clause-facts c = invariant_of-result c

@@ -3,7 +3,7 @@ use Rattle.armcaps_boot.specs.Answers.{Answer}
 use Rattle.armcaps_boot.specs.Changes.{world_after}
 use Rattle.armcaps_boot.specs.Facts.{Facts}
 use Rattle.armcaps_boot.specs.Machine.{world_of}
-use Rattle.armcaps_boot.specs.Returning.{comes_back, KeepsSystem}
+use Rattle.armcaps_boot.specs.Returning.{KeepsSystem, comes_back}
 use Rattle.armcaps_boot.specs.World.{World}
 use Rattle.armcaps_boot.proofs.ComingBack.{coming_back}
 use Rattle.armcaps_boot.proofs.StepLaw.{step_keeps_facts}

@@ -1,7 +1,8 @@
 use Rattle.std.proofs.Common.{◌∙◌, sym}
+use Rattle.armcaps_boot.specs.Causes.{cause_at_verification, first_conflict}
 use Rattle.armcaps_boot.specs.Scopes.{lack_of}
 use Rattle.armcaps_boot.proofs.Asked.{no_some}
-use Rattle.armcaps_boot.proofs.causes.first_lack.Goals as goal
+use Rattle.armcaps_boot.proofs.causes.cause_at_verification.Goals as goal
 
 pub returns-in-Some-clause-cause : goal.returns-in-Some-clause-cause
 unfolding lack_of
