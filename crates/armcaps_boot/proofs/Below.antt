@@ -1,5 +1,5 @@
 -- What the crates below say, in the form in which it is used here.
-use Rattle.std.proofs.Common.{◌≡◌, ◌<◌, ◌≤◌, ◌⊎◌, inl, inr, ℕ, Bool, true, false, List, ◌∷◌, ◌++◌, Option, None, refl, sym, ◌∙◌, ap, arith, length-append}
+use Rattle.std.proofs.Common.{◌≡◌, ◌<◌, ◌≤◌, ◌⊎◌, inl, inr, ℕ, Bool, true, false, List, ◌∷◌, ◌++◌, Option, None, option_map, refl, sym, ◌∙◌, ap, arith, length-append}
 use Rattle.std.specs.Option.{option_map_or}
 use Rattle.std.proofs.lemmas.Bool.{cases_lt}
 use Rattle.std.proofs.lemmas.Option.{slice_get_past}
@@ -7,10 +7,11 @@ use Rattle.std.specs.List.{list_any}
 use Rattle.armcaps_enc.specs.declared.register.SysReg.TheVariants.{CtrEl0}
 use Rattle.armcaps_tables.specs.Core.{Core, core_word, word_at}
 use Rattle.armcaps_tables.specs.Overriding.{FieldOverrides, AllFit}
-use Rattle.armcaps_board.specs.Board.{IsCtrPlain}
-use Rattle.armcaps_sanit.specs.System.{IsSystemOf, system_words}
-use Rattle.armcaps_caps.specs.Capabilities.{core_has_capability, is_boot_scope, is_local_scope, is_system_scope, is_permitted, is_optional, is_panic, is_erratum_class, row_says}
-use Rattle.armcaps_caps.specs.Class.{in_system_scope, works_around}
+use Rattle.armcaps_board.specs.Board.{Board, IsCtrPlain}
+use Rattle.armcaps_boot.specs.Causes.{capability_enabled}
+use Rattle.armcaps_sanit.specs.System.{IsSystemOf, system_field, system_words}
+use Rattle.armcaps_caps.specs.Capabilities.{capability_over, core_has_capability, system_passes, test_of, is_boot_scope, is_local_scope, is_system_scope, is_permitted, is_optional, is_panic, is_erratum_class, row_says}
+use Rattle.armcaps_caps.specs.Class.{in_boot_scope, in_local_scope, in_system_scope, works_around}
 use Rattle.armcaps_caps.specs.Row.{Row}
 use Rattle.armcaps_caps.specs.Rows.{capability_rows}
 use Rattle.armcaps_caps.proofs.Classes.{number_holds}
@@ -38,6 +39,28 @@ counted number says is = by (cases_lt number 53) where
   by (inr past) =
       absurd (let bad : false ≡ true = sym (ap (λ (row : Option Row). option_map_or says row false) (slice_get_past capability_rows number (omega (arith, all_listed)))) ∙ is in
       let no : ⊥ = cc in no)
+
+-- no number past the table is enabled
+says-past : (number : ℕ) (says : Row → Bool) → 53 ≤ number → row_says says number ≡ false
+says-past number says past =
+    ap (λ (row : Option Row). option_map_or says row false) (slice_get_past capability_rows number (omega (arith, all_listed, past)))
+
+pub boot_scope-past : (number : ℕ) → 53 ≤ number → is_boot_scope number ≡ false
+unfolding is_boot_scope
+boot_scope-past number past = says-past number (λ row. in_boot_scope row.class) past
+
+over-past : (overrides : FieldOverrides) (cores : List Core) (number : ℕ) → 53 ≤ number → capability_over overrides cores number ≡ false
+unfolding capability_over test_of
+over-past overrides cores number past =
+    ap (λ (row : Option Row). option_map_or (system_passes (system_field overrides cores)) (option_map (λ row. row.test) row) false)
+    (slice_get_past capability_rows number (omega (arith, all_listed, past)))
+
+pub enabled-past : (board : Board) (early : List Core) (number : ℕ) → 53 ≤ number → capability_enabled board early number ≡ false
+unfolding capability_enabled is_local_scope
+enabled-past board early number past =
+    let boot = boot_scope-past number past in
+    let local = says-past number (λ row. in_local_scope row.class) past in
+    rw (boot, local) (over-past board.overrides early number past)
 
 pub system_is_counted : (number : ℕ) → is_system_scope number ≡ true → number < 53
 unfolding is_system_scope

@@ -28,13 +28,12 @@ use Rattle.armcaps_boot.specs.States.{is_admitted, is_admitted_past}
 use Rattle.armcaps_boot.specs.World.{World, state_at}
 use Rattle.armcaps_boot.proofs.Answering.{IsHeldIn, IsTurnIn, early_cores_are, held_in, past_in, states_set}
 use Rattle.armcaps_boot.proofs.Beginning.{first_facts}
-use Rattle.armcaps_boot.proofs.Below.{erratum_is_counted, system_is_counted}
 use Rattle.armcaps_boot.proofs.AnySteps.{step_after, step_answered}
 use Rattle.armcaps_board.proofs.Bools.{and_left, and_right, not_true}
 use Rattle.armcaps_board.proofs.Turns.{none_in_flight, turn_of}
 use Rattle.armcaps_boot.proofs.Histories.{course, early_came, is_gone_last, on_either}
 use Rattle.armcaps_boot.proofs.Holding.{admitted_by_state, held_from, held_is, not_finalise, other_number, past_by, state_of-boot, state_of-other}
-use Rattle.armcaps_boot.proofs.SafeSystem.{enabled_within, enabled_is_supported, needed_is_enabled}
+use Rattle.armcaps_boot.proofs.SafeSystem.{enabled_is_supported, needed_is_enabled}
 use Rattle.armcaps_boot.proofs.ShorterHistories.{state_at-after}
 use Rattle.armcaps_boot.proofs.StepLaw.{step_keeps_facts}
 
@@ -117,11 +116,10 @@ among_within board p k b order among =
       come : has_come k p ≡ true → k < length board.cores
       come h = come_within board p k order h
 
-enabled_is : (board : Board) (p : List Event) (w : World) (n : ℕ) → IsAfter board p w → in_order board p ≡ true → n < 53
+enabled_is : (board : Board) (p : List Event) (w : World) (n : ℕ) → IsAfter board p w → in_order board p ≡ true
     → is_enabled w n ≡ is_enabled_after board p n
-enabled_is board p w n after order within =
-    enabled_within w n within
-    ∙ ap (λ (l : List Core). capability_enabled w.board l n) (early_cores_are board p w after order)
+enabled_is board p w n after order =
+    ap (λ (l : List Core). capability_enabled w.board l n) (early_cores_are board p w after order)
     ∙ ap (λ (b : Board). capability_enabled b (early_cores_after board p) n) after.of_board
 
 has_is : (board : Board) (p : List Event) (w : World) (core n : ℕ) → IsAfter board p w → core_has w core n ≡ has_capability board (core_at board.cores core) n
@@ -197,9 +195,9 @@ pub safe : (board : Board) (p : List Event) → IsBoard board → in_order board
 safe board p b order complete running = record {
   supported = λ n core scope on among.
       sym (has_is board p w core n r.after)
-      ∙ enabled_is_supported w r.facts final n scope (enabled_is board p w n r.after order (system_is_counted n scope) ∙ on) core (was_admitted board p w core b r.after order among);
+      ∙ enabled_is_supported w r.facts final n scope (enabled_is board p w n r.after order ∙ on) core (was_admitted board p w core b r.after order among);
   needed = λ n core erratum among has.
-      sym (enabled_is board p w n r.after order (erratum_is_counted n erratum))
+      sym (enabled_is board p w n r.after order)
       ∙ needed_is_enabled w r.facts final n erratum core (was_admitted board p w core b r.after order among) (has_is board p w core n r.after ∙ has);
   held = λ core within stepped. by core within stepped (core == board.boot) refl;
   parked = λ core cause within is. parked core cause within is (core == board.boot) refl;

@@ -58,7 +58,7 @@ stored_world world number =
     record (with_state world number (admitted_after world.final (past_of (state_at world.states number)))) {
       system = merged_words world.system (core_at world.board.cores number);
       common_lengths =
-        if world.final then world.common_lengths else bit_and world.common_lengths (core_at world.board.cores number).lengths;
+          if world.final then world.common_lengths else bit_and world.common_lengths (core_at world.board.cores number).lengths;
     }
 
 -- after a core went
@@ -77,7 +77,7 @@ final_world world = record world {
   hwcaps = hwcaps_over world.board (early_cores world.board world.states);
   final_ctr = word_at world.system CtrEl0;
   lengths =
-    if capability_enabled world.board (early_cores world.board world.states) sve_capability then world.common_lengths else 0;
+      if capability_enabled world.board (early_cores world.board world.states) sve_capability then world.common_lengths else 0;
 }
 
 -- after a step that is done

@@ -1,7 +1,6 @@
 -- What is relied on before and after finalisation.
-use Rattle.std.specs.Prelude.{◌≡◌, ℕ, Bool, true, ◌&&◌, nat_lt, if◌then◌else◌}
+use Rattle.std.specs.Prelude.{◌≡◌, ℕ, Bool, true, ◌&&◌}
 use Rattle.armcaps_caps.specs.Capabilities.{is_boot_scope}
-use Rattle.armcaps_caps.specs.Rows.{capability_count}
 use Rattle.armcaps_board.specs.Board.{boot_core, core_at}
 use Rattle.armcaps_boot.specs.Causes.{has_capability, capability_enabled}
 use Rattle.armcaps_boot.specs.States.{is_admitted}
@@ -15,12 +14,10 @@ WasAdmitted world core = is_admitted (state_at world.states core) ≡ true
 abbrev pub core_has : World → ℕ → ℕ → Bool
 core_has world core number = has_capability world.board (core_at world.board.cores core) number
 
--- whether a capability is enabled over the early cores: none is from the number of capabilities on
+-- whether a capability is enabled over the early cores
 abbrev pub is_enabled : World → ℕ → Bool
-is_enabled world number =
-    nat_lt number capability_count && capability_enabled world.board (early_cores world.board world.states) number
+is_enabled world number = capability_enabled world.board (early_cores world.board world.states) number
 
 -- whether a capability is enabled before finalisation: one of boot scope that the boot core has
 abbrev pub is_enabled_at_first : World → ℕ → Bool
-is_enabled_at_first world number =
-    nat_lt number capability_count && (is_boot_scope number && has_capability world.board (boot_core world.board) number)
+is_enabled_at_first world number = is_boot_scope number && has_capability world.board (boot_core world.board) number

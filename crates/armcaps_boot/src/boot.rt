@@ -11,11 +11,11 @@ ghost use Rattle.armcaps_boot.specs.First.{first_states, first_world};
 ghost use Rattle.armcaps_boot.specs.Numbers.{is_in};
 
 use crate::core_state::CoreState;
-use armcaps_board::{Board, Event};
 use crate::halt::Halt;
 use crate::machine::Machine;
 use crate::refused::{BootRefused, StepRefused};
 use crate::reply::Reply;
+use armcaps_board::{Board, Event};
 use armcaps_caps::CAPABILITIES;
 use armcaps_enc::SysReg;
 use armcaps_hwcap::HwSet;

@@ -34,13 +34,7 @@ pub(crate) fn with_own(
 }
 
 // Whether the capability of this number is of the scope and a core has it.
-fn is_own(
-    number: u16,
-    of_boot_scope: bool,
-    board: &Board,
-    core: &CoreRegs,
-    ctr: u64,
-) -> bool
+fn is_own(number: u16, of_boot_scope: bool, board: &Board, core: &CoreRegs, ctr: u64) -> bool
     requires within { number < capability_count }
     requires boot_core { board.now.boot < length board.now.cores }
     ensures { result ≡ (asked.own_scope of_boot_scope number && asked.has_by board.now ctr core.now number) }

@@ -12,8 +12,9 @@ use Rattle.armcaps_tables.specs.Core.{core_word}
 use Rattle.armcaps_sanit.specs.Users.{user_word}
 use Rattle.armcaps_boot.specs.declared.core_state.CoreState.{CoreState}
 use Rattle.armcaps_boot.specs.declared.core_state.CoreState.TheVariants.{Admitted}
-use Rattle.armcaps_boot.specs.Findings.{Findings, admitted}
 use Rattle.armcaps_board.specs.Board.{core_at}
+use Rattle.armcaps_boot.specs.Findings.{Findings}
+use Rattle.armcaps_boot.specs.World.{admitted_cores}
 use Rattle.armcaps_mrs.specs.declared.refused.UserRefused.{UserRefused}
 use Rattle.armcaps_mrs.specs.declared.refused.UserRefused.TheVariants.{NotAdmitted, Undefined}
 use Rattle.armcaps_mrs.specs.declared.read.UserRead.{UserRead}
@@ -31,10 +32,10 @@ is_emulated_number id = is_emulated (id / 2 ^ 12 % 2 ^ 4) (id / 2 ^ 8 % 2 ^ 4) (
 -- what a core reads from a register: its own MIDR, a fixed MPIDR and REVIDR, what all cores that were ever admitted show
 -- to users of a register that has fields, and 0 where there is no register
 unfoldable pub value_read : Findings → ℕ → Option SysReg → ℕ
-value_read found core (Some MidrEl1) = core_word (core_at found.cores core) MidrEl1
+value_read found core (Some MidrEl1) = core_word (core_at found.board.cores core) MidrEl1
 value_read found core (Some MpidrEl1) = 2 ^ 31
 value_read found core (Some RevidrEl1) = 0
-value_read found core (Some register) = user_word found.overrides (admitted found) register
+value_read found core (Some register) = user_word found.board.overrides (admitted_cores found.board found.states) register
 value_read found core None = 0
 
 -- what an instruction word reads, where its read is emulated

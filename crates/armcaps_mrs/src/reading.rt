@@ -53,7 +53,7 @@ fn is_emulated(id: u32) -> bool
 // What a core reads from a register.
 #[tactic(auto, unfolding(crate::specs::Reading::value_read))]
 fn value(boot: &Boot, core: u32, register: Option<SysReg>) -> u64
-    requires { core < length boot.now.cores }
+    requires { core < length boot.now.board.cores }
     ensures { result ≡ value_read (findings_of boot.now) core register }
 {
     match register {

@@ -6,7 +6,6 @@ ghost use Rattle.std.specs.Option.{option_to_list};
 ghost use Rattle.armcaps_alt.specs.declared.patch_kind.PatchKind.{PatchKind};
 ghost use Rattle.armcaps_alt.specs.Entries.{entry_at, is_selected, selected_of};
 ghost use Rattle.armcaps_alt.specs.Refusals.{first_refusal, refusal_of};
-ghost use Rattle.armcaps_boot.specs.Causes.{capability_enabled};
 ghost use Rattle.armcaps_patch.specs.Features.{features_of};
 ghost use Rattle.armcaps_patch.specs.Kept.{IsKept, StandsFor, kept_of};
 

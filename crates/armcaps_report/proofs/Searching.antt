@@ -6,8 +6,8 @@ use Rattle.std.proofs.lemmas.List.{get_or_past}
 use Rattle.armcaps_tables.specs.Core.{Core}
 use Rattle.armcaps_boot.specs.declared.core_state.CoreState.{CoreState}
 use Rattle.armcaps_boot.specs.declared.core_state.CoreState.TheVariants.{Absent}
-use Rattle.armcaps_boot.specs.Choosing.{chosen}
 use Rattle.armcaps_board.specs.Board.{core_at}
+use Rattle.armcaps_boot.specs.Choosing.{chosen}
 use Rattle.armcaps_boot.specs.World.{state_at}
 use Rattle.armcaps_boot.proofs.ChosenCores.{any-among, chosen-among}
 use Rattle.armcaps_report.specs.Settled.{is_settled, AreSettled}

@@ -14,9 +14,10 @@ use Rattle.armcaps_sanit.specs.Varying.{core_varies}
 use Rattle.armcaps_caps.specs.Rows.{capability_count}
 use Rattle.armcaps_hwcap.specs.Rows.{hwcap_count}
 use Rattle.armcaps_hwcap.specs.Words.{hwcap_word, hwcap2_word}
+use Rattle.armcaps_board.specs.Board.{boot_core}
 use Rattle.armcaps_boot.specs.Causes.{capability_enabled, hwcap_advertised, is_system_length}
-use Rattle.armcaps_boot.specs.Findings.{Findings, admitted, boot_core, early}
-use Rattle.armcaps_boot.specs.World.{state_at}
+use Rattle.armcaps_boot.specs.Findings.{Findings}
+use Rattle.armcaps_boot.specs.World.{admitted_cores, early_cores, state_at}
 use Rattle.armcaps_report.specs.declared.group.Group.{Group}
 use Rattle.armcaps_report.specs.declared.group.Group.TheVariants.{Header, Cores, Registers, UserWords, Variations, Notes, Capabilities, Hwcaps, VectorLengths, End}
 use Rattle.armcaps_report.specs.Lines.{capability_line, core_line, flag_text, length_line, note_line, register_line, user_line, varies_line, word_line}
@@ -48,36 +49,36 @@ hwcap_lines advertised =
 -- what became of each core
 abbrev pub core_lines : Findings → List ℕ
 core_lines found =
-    flat_map (λ number. core_line found.boot number (state_at found.states number)) (range_with_len 0 (length found.cores))
+    flat_map (λ number. core_line found.board.boot number (state_at found.states number)) (range_with_len 0 (length found.board.cores))
 
 -- the system registers, over the cores that were ever admitted
 abbrev pub register_lines : Findings → List ℕ
 register_lines found =
-    flat_map (λ register. register_line register (system_word found.overrides (admitted found) register)) tracked
+    flat_map (λ register. register_line register (system_word found.board.overrides (admitted_cores found.board found.states) register)) tracked
 
 -- the same as users see them
 abbrev pub user_lines : Findings → List ℕ
-user_lines found = flat_map (λ register. user_line register (user_word found.overrides (admitted found) register)) tracked
+user_lines found = flat_map (λ register. user_line register (user_word found.board.overrides (admitted_cores found.board found.states) register)) tracked
 
 -- the registers in which some such core differs from the boot core
 abbrev pub varies_lines : Findings → List ℕ
 varies_lines found =
-    flat_map (λ register. varies_line register (varies_among (boot_core found) (admitted found) register)) tracked
+    flat_map (λ register. varies_line register (varies_among (boot_core found.board) (admitted_cores found.board found.states) register)) tracked
 
 -- what the overrides of all fields came to
 abbrev pub all_note_lines : Findings → List ℕ
-all_note_lines found = flat_map (note_lines found.overrides (boot_core found)) tracked
+all_note_lines found = flat_map (note_lines found.board.overrides (boot_core found.board)) tracked
 
 -- the capabilities that are enabled
 unfoldable pub capability_lines : Findings → List ℕ
 capability_lines found =
-    flat_map (λ number. capability_line (capability_enabled found.overrides (boot_core found) (early found) number) number)
+    flat_map (λ number. capability_line (capability_enabled found.board (early_cores found.board found.states) number) number)
     (range_with_len 0 capability_count)
 
 -- the vector lengths that programs are told of
 unfoldable pub length_lines : Findings → List ℕ
 length_lines found =
-    flat_map (λ length. length_line (is_system_length found.overrides (boot_core found) (early found) length) length)
+    flat_map (λ length. length_line (is_system_length found.board (early_cores found.board found.states) length) length)
     (range_with_len 1 16)
 
 -- each group
@@ -89,7 +90,7 @@ group_text found UserWords = user_lines found
 group_text found Variations = varies_lines found
 group_text found Notes = all_note_lines found
 group_text found Capabilities = capability_lines found
-group_text found Hwcaps = hwcap_lines (hwcap_advertised found.overrides (early found))
+group_text found Hwcaps = hwcap_lines (hwcap_advertised found.board (early_cores found.board found.states))
 group_text found VectorLengths = length_lines found
 group_text found End = codes "end\n"
 

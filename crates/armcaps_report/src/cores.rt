@@ -25,7 +25,7 @@ pub(crate) fn push_cores(text: &mut String, boot: &Boot) -> Result<(), AllocErro
 #[tactic(auto, unfolding(crate::specs::Lines::core_line))]
 fn push_core(text: &mut String, boot: &Boot, number: u32) -> Result<(), AllocError>
     ensures { OnOk result (string_bytes text.new ≡ string_bytes text.old
-        ++ core_line boot.now.boot number (state_at boot.now.states number)) }
+        ++ core_line boot.now.board.boot number (state_at boot.now.states number)) }
 {
     write!(text, "core {number} ")?;
     push_standing(text, boot, number)?;
@@ -35,7 +35,7 @@ fn push_core(text: &mut String, boot: &Boot, number: u32) -> Result<(), AllocErr
 // Adds that a core is the boot core, or else what became of it.
 fn push_standing(text: &mut String, boot: &Boot, number: u32) -> Result<(), AllocError>
     ensures { OnOk result (string_bytes text.new ≡ string_bytes text.old
-        ++ (if number == boot.now.boot then codes "boot" else state_text (state_at boot.now.states number))) }
+        ++ (if number == boot.now.board.boot then codes "boot" else state_text (state_at boot.now.states number))) }
 {
     if number == boot.boot_core() {
         text.push_str("boot")

@@ -3,8 +3,8 @@
 ghost use Rattle.std.specs.Prelude.{◌≡◌, ◌<◌, ◌++◌, OnOk, length, string_bytes};
 ghost use Rattle.armcaps_tables.specs.RowOf.{row_of};
 ghost use Rattle.armcaps_tables.specs.Rows.{rows_of};
+ghost use Rattle.armcaps_board.specs.Board.{boot_core};
 ghost use Rattle.armcaps_boot.specs.Findings.{findings_of};
-ghost use Rattle.armcaps_boot.specs.World.{boot_of};
 ghost use Rattle.armcaps_report.specs.Lines.{note_line};
 ghost use Rattle.armcaps_report.specs.Report.{all_note_lines, note_line_at, note_lines};
 
@@ -29,7 +29,7 @@ pub(crate) fn push_notes(text: &mut String, boot: &Boot) -> Result<(), AllocErro
 // Adds the lines of a register's fields.
 fn push_notes_of(text: &mut String, boot: &Boot, register: SysReg) -> Result<(), AllocError>
     ensures { OnOk result (string_bytes text.new ≡ string_bytes text.old
-        ++ note_lines boot.now.overrides (boot_of boot.now) register) }
+        ++ note_lines boot.now.board.overrides (boot_core boot.now.board) register) }
 {
     for index in 0..count(register) {
         push_note_at(text, boot, register, index)?;
@@ -47,7 +47,7 @@ fn push_note_at(
 ) -> Result<(), AllocError>
     requires { index < length (rows_of register) }
     ensures { OnOk result (string_bytes text.new ≡ string_bytes text.old
-        ++ note_line_at boot.now.overrides (boot_of boot.now) register index) }
+        ++ note_line_at boot.now.board.overrides (boot_core boot.now.board) register index) }
 {
     let row = field(register, index);
     let note = note(boot_core(boot), boot.overrides(), register, index);

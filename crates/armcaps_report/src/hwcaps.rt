@@ -19,7 +19,7 @@ use std::fmt::Write;
 pub(crate) fn push_hwcaps(text: &mut String, boot: &Boot) -> Result<(), AllocError>
     requires { boot.now.final ≡ true }
     ensures { OnOk result (string_bytes text.new ≡ string_bytes text.old
-        ++ hwcap_lines (hwcap_advertised boot.now.overrides (early_cores boot.now))) }
+        ++ hwcap_lines (hwcap_advertised boot.now.board (early_cores boot.now.board boot.now.states))) }
 {
     let set = hwcaps(boot);
     push_word_line(text, "hwcap", set.hwcap)?;
@@ -32,8 +32,8 @@ pub(crate) fn push_hwcaps(text: &mut String, boot: &Boot) -> Result<(), AllocErr
 // The hwcaps that are advertised.
 fn hwcaps(boot: &Boot) -> HwSet
     requires { boot.now.final ≡ true }
-    ensures first { result.hwcap ≡ hwcap_word (hwcap_advertised boot.now.overrides (early_cores boot.now)) }
-    ensures second { result.hwcap2 ≡ hwcap2_word (hwcap_advertised boot.now.overrides (early_cores boot.now)) }
+    ensures first { result.hwcap ≡ hwcap_word (hwcap_advertised boot.now.board (early_cores boot.now.board boot.now.states)) }
+    ensures second { result.hwcap2 ≡ hwcap2_word (hwcap_advertised boot.now.board (early_cores boot.now.board boot.now.states)) }
 {
     boot.facts_hold();
     boot.hwcaps()
@@ -55,7 +55,7 @@ fn push_word_line(text: &mut String, name: &str, word: u64) -> Result<(), AllocE
 fn push_flags(text: &mut String, boot: &Boot) -> Result<(), AllocError>
     requires { boot.now.final ≡ true }
     ensures { OnOk result (string_bytes text.new ≡ string_bytes text.old
-        ++ flags_text (hwcap_advertised boot.now.overrides (early_cores boot.now))) }
+        ++ flags_text (hwcap_advertised boot.now.board (early_cores boot.now.board boot.now.states))) }
 {
     for index in 0..HWCAPS {
         push_flag(text, is_advertised(boot, index), index)?;
@@ -67,7 +67,7 @@ fn push_flags(text: &mut String, boot: &Boot) -> Result<(), AllocError>
 fn is_advertised(boot: &Boot, index: usize) -> bool
     requires finalised { boot.now.final ≡ true }
     requires row { index < hwcap_count }
-    ensures { result ≡ hwcap_advertised boot.now.overrides (early_cores boot.now) index }
+    ensures { result ≡ hwcap_advertised boot.now.board (early_cores boot.now.board boot.now.states) index }
 {
     hwcaps(boot).contains(index)
 }

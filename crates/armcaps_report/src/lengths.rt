@@ -3,7 +3,7 @@
 ghost use Rattle.std.specs.Prelude.{◌≡◌, ◌<◌, ◌+◌, ◌++◌, OnOk, string_bytes, true};
 ghost use Rattle.armcaps_boot.specs.Causes.{is_system_length};
 ghost use Rattle.armcaps_boot.specs.Findings.{findings_of};
-ghost use Rattle.armcaps_boot.specs.World.{boot_of, early_cores};
+ghost use Rattle.armcaps_boot.specs.World.{early_cores};
 ghost use Rattle.armcaps_report.specs.Lines.{length_line};
 ghost use Rattle.armcaps_report.specs.Report.{length_lines};
 
@@ -27,7 +27,7 @@ pub(crate) fn push_lengths(text: &mut String, boot: &Boot) -> Result<(), AllocEr
 fn is_told(boot: &Boot, bit: u32) -> bool
     requires finalised { boot.now.final ≡ true }
     requires bit { bit < 16 }
-    ensures { result ≡ is_system_length boot.now.overrides (boot_of boot.now) (early_cores boot.now) (bit + 1) }
+    ensures { result ≡ is_system_length boot.now.board (early_cores boot.now.board boot.now.states) (bit + 1) }
 {
     boot.facts_hold();
     boot.vector_lengths() >> bit & 1 == 1

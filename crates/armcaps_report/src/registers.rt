@@ -3,7 +3,8 @@
 ghost use Rattle.std.specs.Prelude.{◌≡◌, ◌++◌, OnOk, string_bytes};
 ghost use Rattle.armcaps_sanit.specs.System.{system_word};
 ghost use Rattle.armcaps_sanit.specs.Users.{user_word};
-ghost use Rattle.armcaps_boot.specs.Findings.{admitted, findings_of};
+ghost use Rattle.armcaps_boot.specs.Findings.{findings_of};
+ghost use Rattle.armcaps_boot.specs.World.{admitted_cores};
 ghost use Rattle.armcaps_report.specs.Lines.{register_line, user_line, varies_line};
 ghost use Rattle.armcaps_report.specs.Report.{register_lines, user_lines, varies_lines};
 ghost use Rattle.armcaps_report.specs.Texts.{word_text};
@@ -66,7 +67,7 @@ pub(crate) fn push_registers(text: &mut String, boot: &Boot) -> Result<(), Alloc
 
 // A system register's word.
 fn system_word(boot: &Boot, register: SysReg) -> u64
-    ensures { result ≡ system_word boot.now.overrides (admitted (findings_of boot.now)) register }
+    ensures { result ≡ system_word boot.now.board.overrides (admitted_cores boot.now.board boot.now.states) register }
 {
     boot.system().word(register)
 }
@@ -83,7 +84,7 @@ pub(crate) fn push_user_words(text: &mut String, boot: &Boot) -> Result<(), Allo
 
 // A system register's word as users see it.
 fn user_word(boot: &Boot, register: SysReg) -> u64
-    ensures { result ≡ user_word boot.now.overrides (admitted (findings_of boot.now)) register }
+    ensures { result ≡ user_word boot.now.board.overrides (admitted_cores boot.now.board boot.now.states) register }
 {
     boot.system().user_word(register)
 }

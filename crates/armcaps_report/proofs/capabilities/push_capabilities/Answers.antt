@@ -1,6 +1,6 @@
 use Rattle.std.proofs.Common.{◌≡◌, arith}
 use Rattle.armcaps_boot.specs.Causes.{capability_enabled}
-use Rattle.armcaps_boot.specs.World.{boot_of, early_cores}
+use Rattle.armcaps_boot.specs.World.{early_cores}
 use Rattle.armcaps_report.specs.Lines.{capability_line}
 use Rattle.armcaps_report.specs.Report.{capability_lines}
 use Rattle.armcaps_report.proofs.Ranges.{number_more}
@@ -8,8 +8,8 @@ use Rattle.armcaps_report.proofs.capabilities.push_capabilities.Goals as goal
 
 pub loop-number-preserved : goal.loop-number-preserved
 loop-number-preserved c =
-    number_more (λ number. capability_line (capability_enabled c.args.boot.now.overrides (boot_of c.args.boot.now) (early_cores c.args.boot.now) number) number) c.loop-number.number _ _ _ c.loop-number.invariant
-    (rw (c.enabled.ensures.after c.requires (omega arith)) at c.in_ok-push_where_enabled.ensures)
+    number_more (λ number. capability_line (capability_enabled c.args.boot.now.board (early_cores c.args.boot.now.board c.args.boot.now.states) number) number) c.loop-number.number _ _ _ c.loop-number.invariant
+    (rw (c.enabled.ensures.after c.requires) at c.in_ok-push_where_enabled.ensures)
 
 pub returns : goal.returns
 unfolding capability_lines

@@ -6,4 +6,4 @@ use Rattle.armcaps_report.proofs.cores.push_cores.Given as goal
 
 abbrev pub invariant-loop-number : goal.invariant-loop-number
 invariant-loop-number l =
-    string_bytes l.text ≡ string_bytes l.initial.text ++ flat_map (λ number. core_line l.boot.boot number (state_at l.boot.states number)) (range_with_len 0 l.number)
+    string_bytes l.text ≡ string_bytes l.initial.text ++ flat_map (λ number. core_line l.boot.board.boot number (state_at l.boot.states number)) (range_with_len 0 l.number)

@@ -7,4 +7,4 @@ use Rattle.armcaps_report.proofs.hwcaps.push_flags.Given as goal
 
 abbrev pub invariant-loop-index : goal.invariant-loop-index
 invariant-loop-index l =
-    string_bytes l.text ≡ string_bytes l.initial.text ++ flat_map (λ index. flag_text (hwcap_advertised l.boot.overrides (early_cores l.boot) index) index) (range_with_len 0 l.index)
+    string_bytes l.text ≡ string_bytes l.initial.text ++ flat_map (λ index. flag_text (hwcap_advertised l.boot.board (early_cores l.boot.board l.boot.states) index) index) (range_with_len 0 l.index)

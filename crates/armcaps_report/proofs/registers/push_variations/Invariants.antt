@@ -1,11 +1,12 @@
 use Rattle.std.proofs.Common.{◌≡◌, ◌++◌, take, string_bytes}
 use Rattle.std.specs.List.{flat_map}
 use Rattle.armcaps_enc.specs.Registers.{tracked}
-use Rattle.armcaps_boot.specs.Findings.{admitted, boot_core, findings_of}
+use Rattle.armcaps_board.specs.Board.{boot_core}
+use Rattle.armcaps_boot.specs.World.{admitted_cores}
 use Rattle.armcaps_report.specs.Lines.{varies_line}
 use Rattle.armcaps_report.specs.Report.{varies_among}
 use Rattle.armcaps_report.proofs.registers.push_variations.Given as goal
 
 abbrev pub invariant-loop-register : goal.invariant-loop-register
 invariant-loop-register l =
-    string_bytes l.text ≡ string_bytes l.initial.text ++ flat_map (λ register. varies_line register (varies_among (boot_core (findings_of l.boot)) (admitted (findings_of l.boot)) register)) (take l.register-index tracked)
+    string_bytes l.text ≡ string_bytes l.initial.text ++ flat_map (λ register. varies_line register (varies_among (boot_core l.boot.board) (admitted_cores l.boot.board l.boot.states) register)) (take l.register-index tracked)
