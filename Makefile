@@ -20,7 +20,9 @@ EXAMPLES := $(wildcard examples/*.txt examples/*.report examples/*.trace example
 	examples/README.md
 DUMPS := $(wildcard examples/dumps/*)
 PATCHING := examples/patching/make-kernel examples/patching/cpucap-defs.h
-MODULES := $(patsubst %,tools/armcaps_tools/%.py,__init__ kernel linux machine profile text vmlinux)
+# antt and contracts read the definitions of the crates, which an installed copy has not
+MODULES := $(filter-out %/antt.py %/contracts.py,$(wildcard tools/armcaps_tools/*.py))
+SHAPES := $(wildcard tools/armcaps_tools/dumps/*.py)
 TABLES := $(wildcard tools/data/*.tsv)
 IDREGS := $(patsubst %,tools/idregs/%,Makefile idregs.c registers.h virt.c virt-start.S virt.ld go.S)
 LIBRARY := $(DESTDIR)$(DATADIR)/armcaps
@@ -57,7 +59,9 @@ install:
 	install -D -t $(DESTDIR)$(DOCDIR)/examples/patching $(PATCHING)
 	install -D -t $(LIBRARY) $(TOOLS:%=tools/%)
 	install -D -m 644 -t $(LIBRARY)/armcaps_tools $(MODULES)
+	install -D -m 644 -t $(LIBRARY)/armcaps_tools/dumps $(SHAPES)
 	install -D -m 644 -t $(LIBRARY)/data $(TABLES)
+	install -m 644 VERSION $(LIBRARY)/VERSION
 	install -D -m 644 -t $(LIBRARY)/idregs $(IDREGS)
 	install -D -t $(LIBRARY)/idregs tools/idregs/build tools/idregs/run
 	for tool in $(TOOLS); do ln -sfr $(LIBRARY)/$$tool $(DESTDIR)$(BINDIR)/armcaps-$$tool; done
@@ -66,9 +70,9 @@ install:
 uninstall:
 	rm -f $(DESTDIR)$(BINDIR)/armcaps $(TOOLS:%=$(DESTDIR)$(BINDIR)/armcaps-%) $(DESTDIR)$(MANDIR)/man1/armcaps.1
 	cd $(DESTDIR)$(DOCDIR) && rm -f $(notdir $(PAGES)) $(EXAMPLES) $(DUMPS) $(PATCHING)
-	cd $(LIBRARY) && rm -f $(TOOLS) $(patsubst tools/%,%,$(MODULES) $(TABLES) $(IDREGS)) idregs/build idregs/run
-	rm -rf $(LIBRARY)/armcaps_tools/__pycache__
-	-rmdir $(LIBRARY)/armcaps_tools $(LIBRARY)/data $(LIBRARY)/idregs $(LIBRARY) $(addprefix $(DESTDIR)$(DOCDIR),/examples/dumps /examples/patching /examples /)
+	cd $(LIBRARY) && rm -f VERSION $(TOOLS) $(patsubst tools/%,%,$(MODULES) $(SHAPES) $(TABLES) $(IDREGS)) idregs/build idregs/run
+	rm -rf $(LIBRARY)/armcaps_tools/__pycache__ $(LIBRARY)/armcaps_tools/dumps/__pycache__
+	-rmdir $(LIBRARY)/armcaps_tools/dumps $(LIBRARY)/armcaps_tools $(LIBRARY)/data $(LIBRARY)/idregs $(LIBRARY) $(addprefix $(DESTDIR)$(DOCDIR),/examples/dumps /examples/patching /examples /)
 
 clean:
 	rm -rf build crates/*/out

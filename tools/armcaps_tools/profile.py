@@ -12,6 +12,10 @@ import re
 DATA = pathlib.Path(__file__).resolve().parent.parent / "data"
 
 
+class Missing(Exception):
+    """A table that is not there: the tools are not whole."""
+
+
 @dataclasses.dataclass(frozen=True)
 class Register:
     """A register, by its name in texts, its name in overrides and notes, and its encoding."""
@@ -69,8 +73,11 @@ class Test:
 
 
 def table(name):
-    with open(DATA / f"{name}.tsv", encoding="utf-8", newline="") as file:
-        return list(csv.DictReader(file, delimiter="\t"))
+    try:
+        with open(DATA / f"{name}.tsv", encoding="utf-8", newline="") as file:
+            return list(csv.DictReader(file, delimiter="\t"))
+    except OSError as error:
+        raise Missing(f"{error.filename}: {error.strerror}: the tools are not whole, install them anew") from None
 
 
 @functools.lru_cache(maxsize=None)
