@@ -13,7 +13,7 @@ DOCDIR ?= $(DATADIR)/doc/armcaps
 
 VERSION := $(shell cat VERSION)
 PROGRAM := crates/armcaps/out/armcaps
-TOOLS := dump2text explain cmdline-lint kernel2text
+TOOLS := dump2text explain cmdline-lint kernel2text patch-diff
 PAGES := $(wildcard docs/MACHINE-TEXT.md docs/OVERRIDES.md docs/REPORT.md docs/TRACE.md docs/MRS.md docs/STATUSES.md \
 	docs/FIELDS.md docs/CAPABILITIES.md docs/HWCAPS.md docs/FROM-A-BOARD.md docs/PATCHING.md docs/ALTERNATIVES.md)
 EXAMPLES := $(wildcard examples/*.txt examples/*.report examples/*.trace examples/*.mrs examples/*.status examples/*.err) \

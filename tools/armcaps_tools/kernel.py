@@ -84,10 +84,7 @@ class Kernel:
         return self.span("__start___jump_table", "__stop___jump_table", JUMP_ENTRY, "table of jump labels")
 
     def entries(self):
-        begin, count = self.table()
-        for place in range(begin, begin + count * ENTRY.size, ENTRY.size):
-            site, other, number, length, _ = ENTRY.unpack_from(self.image, place)
-            yield Entry(place + site, place + 4 + other, number & ~CALLBACK, bool(number & CALLBACK), length)
+        return entries_of(self.image, *self.table())
 
     def names_at(self):
         """The symbols of each offset."""
@@ -95,6 +92,13 @@ class Kernel:
         for name, offset in self.offsets.items():
             found.setdefault(offset, []).append(name)
         return found
+
+
+def entries_of(image, begin, count):
+    """The entries of a table of an image."""
+    for place in range(begin, begin + count * ENTRY.size, ENTRY.size):
+        site, other, number, length, _ = ENTRY.unpack_from(image, place)
+        yield Entry(place + site, place + 4 + other, number & ~CALLBACK, bool(number & CALLBACK), length)
 
 
 def of_image(image, known):

@@ -50,3 +50,20 @@ def before_finalise(given):
         if len(tokens) == 2 and tokens[0] in ("store", "online"):
             found.add(text.number(tokens[1]))
     return found
+
+
+IMAGE_LINES = (b"number", b"given", b"conduit", b"callback", b"table", b"image")
+
+
+def decided(given):
+    """Of each number of a text that stands before an image: its name, and whether it is on."""
+    lines = given.split(b"\n")
+    bare = [line for line in lines if not line.strip().startswith(IMAGE_LINES)]
+    capabilities = set(report(b"\n".join(bare).rstrip(b"\n") + b"\nend\n").capabilities)
+    found = {}
+    for tokens in (line.decode("utf-8", "replace").split() for line in lines):
+        if tokens[:1] == ["number"]:
+            found[text.number(tokens[1])] = tokens[2], tokens[2] in capabilities
+        elif tokens[:1] == ["given"]:
+            found[text.number(tokens[1])] = tokens[2], tokens[3] == "on"
+    return found
