@@ -4,13 +4,11 @@ import dataclasses
 import re
 import struct
 
+from .command import Refused
+
 ENTRY = struct.Struct("<iiHBB")
 JUMP_ENTRY = 16
 CALLBACK = 0x8000
-
-
-class Refused(Exception):
-    """What is not taken, with what to do."""
 
 
 def symbols(data):

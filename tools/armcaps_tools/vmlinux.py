@@ -3,7 +3,7 @@
 import dataclasses
 import struct
 
-from .kernel import Refused
+from .command import Refused
 
 HEADER = struct.Struct("<16sHHIQQQIHHHHHH")
 SECTION = struct.Struct("<IIQQQQIIQQ")
