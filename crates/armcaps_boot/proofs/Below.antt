@@ -10,8 +10,8 @@ use Rattle.armcaps_tables.specs.Overriding.{FieldOverrides, AllFit}
 use Rattle.armcaps_board.specs.Board.{Board, IsCtrPlain}
 use Rattle.armcaps_boot.specs.Causes.{capability_enabled}
 use Rattle.armcaps_sanit.specs.System.{IsSystemOf, system_field, system_words}
-use Rattle.armcaps_caps.specs.Capabilities.{capability_over, core_has_capability, system_passes, test_of, is_boot_scope, is_local_scope, is_system_scope, is_permitted, is_optional, is_panic, is_erratum_class, row_says}
-use Rattle.armcaps_caps.specs.Class.{in_boot_scope, in_local_scope, in_system_scope, works_around}
+use Rattle.armcaps_caps.specs.Capabilities.{capability_over, core_has_capability, system_passes, test_of, is_boot_scope, is_local_scope, is_system_scope, is_permitted, is_optional, is_panic, is_workaround, row_says}
+use Rattle.armcaps_caps.specs.Class.{in_boot_scope, in_local_scope, in_system_scope, workaround}
 use Rattle.armcaps_caps.specs.Row.{Row}
 use Rattle.armcaps_caps.specs.Rows.{capability_rows}
 use Rattle.armcaps_caps.proofs.Classes.{number_holds}
@@ -66,9 +66,9 @@ pub system_is_counted : (number : ℕ) → is_system_scope number ≡ true → n
 unfolding is_system_scope
 system_is_counted number is = counted number (λ row. in_system_scope row.class) is
 
-pub erratum_is_counted : (number : ℕ) → is_erratum_class number ≡ true → number < 53
-unfolding is_erratum_class
-erratum_is_counted number is = counted number (λ row. works_around row.class) is
+pub erratum_is_counted : (number : ℕ) → is_workaround number ≡ true → number < 53
+unfolding is_workaround
+erratum_is_counted number is = counted number (λ row. workaround row.class) is
 
 pub system_scope_else : (number : ℕ) → number < 53 → is_boot_scope number ≡ false → is_local_scope number ≡ false → is_system_scope number ≡ true
 system_scope_else number within boot local = (number_holds number within).decided boot local
@@ -105,12 +105,12 @@ pub record Workaround (number : ℕ) : Type 0 where
   pub is_local : is_local_scope number ≡ true
   pub strict : is_permitted number ≡ false
 
-pub erratum_is_local : (number : ℕ) → number < 53 → is_erratum_class number ≡ true → Workaround number
+pub erratum_is_local : (number : ℕ) → number < 53 → is_workaround number ≡ true → Workaround number
 erratum_is_local number within erratum = let holds = number_holds number within in record {
   is_local = holds.erratum_local erratum;
   strict = holds.erratum_not_permitted erratum;
 }
 
-pub cache_type_is_erratum : is_erratum_class 42 ≡ true
-unfolding is_erratum_class capability_rows
+pub cache_type_is_erratum : is_workaround 42 ≡ true
+unfolding is_workaround capability_rows
 cache_type_is_erratum = refl

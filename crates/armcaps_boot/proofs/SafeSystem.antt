@@ -3,7 +3,7 @@ use Rattle.std.proofs.Common.{◌≡◌, ◌<◌, ◌≤◌, ◌⊎◌, inl, inr
 use Rattle.std.specs.Prelude.{nat_lt}
 use Rattle.std.proofs.lemmas.Bool.{cases_lt, le-ltb}
 use Rattle.std.proofs.lemmas.Bool.Decides.{Decides-ltb, not_from_Decides}
-use Rattle.armcaps_caps.specs.Capabilities.{conflicts, is_boot_scope, is_optional, is_permitted, is_system_scope, is_erratum_class}
+use Rattle.armcaps_caps.specs.Capabilities.{conflicts, is_boot_scope, is_optional, is_permitted, is_system_scope, is_workaround}
 use Rattle.armcaps_caps.specs.Set.{holds}
 use Rattle.armcaps_board.specs.Board.{boot_core, core_at}
 use Rattle.armcaps_boot.specs.Causes.{capability_enabled, has_capability}
@@ -35,7 +35,7 @@ enabled_is_supported w f final n scope on core admitted =
     ∙ none_in_conflict _ _ _ w.board (core_at w.board.cores core) ((f.states core).verified final admitted) n within alone.not_boot)
 
 -- each workaround that an admitted core needs is enabled
-pub needed_is_enabled : (w : World) → Facts w → w.final ≡ true → (n : ℕ) → is_erratum_class n ≡ true
+pub needed_is_enabled : (w : World) → Facts w → w.final ≡ true → (n : ℕ) → is_workaround n ≡ true
     → (core : ℕ) → WasAdmitted w core → core_has w core n ≡ true → is_enabled w n ≡ true
 needed_is_enabled w f final n erratum core admitted has =
     let within = erratum_is_counted n erratum in

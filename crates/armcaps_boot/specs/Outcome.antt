@@ -1,6 +1,6 @@
 -- What can be relied on once the steps of a board are made (Linux, arch/arm64/kernel/cpufeature.c, `verify_local_cpu_caps`).
 use Rattle.std.specs.Prelude.{◌≡◌, ◌<◌, ◌⊎◌, ℕ, Bool, true, false, List, length, Some, None, is_some}
-use Rattle.armcaps_caps.specs.Capabilities.{is_erratum_class, is_system_scope}
+use Rattle.armcaps_caps.specs.Capabilities.{is_workaround, is_system_scope}
 use Rattle.armcaps_boot.specs.declared.cause.Cause.{Cause}
 use Rattle.armcaps_boot.specs.declared.core_state.CoreState.TheVariants.{Parked}
 use Rattle.armcaps_board.specs.declared.event.Event.{Event}
@@ -40,7 +40,7 @@ IsAdmittedOrParked board steps core =
 pub record IsSafe (board : Board) (steps : List Event) : Type 0 where
   pub supported : (number core : ℕ) → is_system_scope number ≡ true → is_enabled_after board steps number ≡ true
       → is_among_admitted board steps core ≡ true → has_capability board (core_at board.cores core) number ≡ true
-  pub needed : (number core : ℕ) → is_erratum_class number ≡ true → is_among_admitted board steps core ≡ true
+  pub needed : (number core : ℕ) → is_workaround number ≡ true → is_among_admitted board steps core ≡ true
       → has_capability board (core_at board.cores core) number ≡ true → is_enabled_after board steps number ≡ true
   pub held : (core : ℕ) → core < length board.cores → is_some (last_step core steps) ≡ true → IsAdmittedOrParked board steps core
   pub parked : (core : ℕ) (cause : Cause) → core < length board.cores → state_of board steps core ≡ Parked cause

@@ -3,7 +3,7 @@ ghost use Rattle.std.specs.Option.{option_copied};
 ghost use Rattle.armcaps_enc.specs.declared.register.SysReg.TheVariants.{CtrEl0};
 ghost use Rattle.armcaps_tables.specs.Core.{word_at};
 ghost use Rattle.armcaps_sanit.specs.System.{IsSystemOf, system_words};
-ghost use Rattle.armcaps_caps.specs.Capabilities.{is_erratum_class, is_system_scope};
+ghost use Rattle.armcaps_caps.specs.Capabilities.{is_workaround, is_system_scope};
 ghost use Rattle.armcaps_caps.specs.Rows.{capability_count};
 ghost use Rattle.armcaps_board.specs.Board.{IsCtrPlain};
 ghost use Rattle.armcaps_boot.specs.Answers.{answer_of};
@@ -174,7 +174,7 @@ impl Boot {
         ensures beyond { capability_count ≤ number → result ≡ false }
         ensures supported { self.now.final ≡ true → is_system_scope number ≡ true → result ≡ true
             → (core : ℕ) → WasAdmitted self.now core → core_has self.now core number ≡ true }
-        ensures needed { self.now.final ≡ true → is_erratum_class number ≡ true
+        ensures needed { self.now.final ≡ true → is_workaround number ≡ true
             → (core : ℕ) → WasAdmitted self.now core → core_has self.now core number ≡ true → result ≡ true }
     {
         number < CAPABILITIES && self.machine.enabled.contains(number)

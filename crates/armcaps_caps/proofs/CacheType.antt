@@ -2,7 +2,7 @@
 use Rattle.std.proofs.Common.{◌≡◌, ◌<◌, ℕ, suc, zero, Bool, true, false, not, ◌&&◌, ◌||◌, List, [], ◌∷◌, length, Some, None, slice_get, refl, sym, ◌∙◌, ap, arith}
 use Rattle.std.specs.List.{list_any, All}
 use Rattle.std.specs.Ordering.{int_eq}
-use Rattle.std.proofs.lemmas.Bool.{false≢true}
+use Rattle.std.proofs.lemmas.Bool.{false≢true, or_parts}
 use Rattle.std.proofs.lemmas.List.Folds.{list_any_at}
 use Rattle.std.proofs.lemmas.Option.{get_or_from_slice_get, slice_get_within}
 use Rattle.armcaps_rule.proofs.Insertion.{by_bool}
@@ -39,11 +39,6 @@ none_passes test rows index row none at = by_bool (test row)
     (ap test (get_or_from_slice_get rows index row row at) ∙ passes))))
     (λ fails. fails)
 
--- what two parts of a test that fails say
-neither : (a b : Bool) → (a || b) ≡ false → (a ≡ false) × (b ≡ false)
-neither true b h = absurd (false≢true (sym h))
-neither false b h = (refl, h)
-
 -- a strict field of a core that doesn't differ has the boot core's value
 same_value : (row : FieldRow) (boot other : ℕ) → row.strict ≡ true → row_varies boot other row ≡ false
     → field_in row other ≡ field_in row boot
@@ -64,11 +59,11 @@ all_same row index boot [] at strict none k d within = absurd (omega arith)
 all_same row index boot (core ∷ cores) at strict none zero d within =
     same_value row boot (core_word core CtrEl0) strict
     (none_passes (row_varies boot (core_word core CtrEl0)) (rows_of CtrEl0) index row
-    (neither (word_varies CtrEl0 boot (core_word core CtrEl0))
+    (or_parts (word_varies CtrEl0 boot (core_word core CtrEl0))
     (list_any (λ core. word_varies CtrEl0 boot (core_word core CtrEl0)) cores) none).0 at)
 all_same row index boot (core ∷ cores) at strict none (suc k) d within =
     all_same row index boot cores at strict
-    (neither (word_varies CtrEl0 boot (core_word core CtrEl0))
+    (or_parts (word_varies CtrEl0 boot (core_word core CtrEl0))
     (list_any (λ core. word_varies CtrEl0 boot (core_word core CtrEl0)) cores) none).1
     k d (omega arith)
 
@@ -108,7 +103,7 @@ cache_type_compares overrides cores words boot core stands free none =
           → list_any (λ core. word_varies CtrEl0 (core_word boot CtrEl0) (core_word core CtrEl0)) cores ≡ false
       differ [] none = none
       differ (other ∷ cores) none =
-          let parts = neither (core_has_capability overrides boot (core_word boot CtrEl0) other 42)
+          let parts = or_parts (core_has_capability overrides boot (core_word boot CtrEl0) other 42)
           (list_any (λ other. core_has_capability overrides boot (core_word boot CtrEl0) other 42) cores) none in
           ap (λ b. b || list_any (λ core. word_varies CtrEl0 (core_word boot CtrEl0) (core_word core CtrEl0)) cores)
           (sym (core_has_capability-cache overrides boot other (core_word boot CtrEl0)) ∙ parts.0)

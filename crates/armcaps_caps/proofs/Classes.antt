@@ -1,10 +1,10 @@
 -- What the classes say of every capability: each is decided in one way, and only one of the boot core's stops the
 -- machine.
-use Rattle.std.proofs.Common.{◌≡◌, ℕ, ◌<◌, Bool, true, false, not, ◌||◌, Some, slice_get, refl, sym, ◌∙◌, ap}
+use Rattle.std.proofs.Common.{◌≡◌, ℕ, ◌<◌, Bool, true, false, not, Some, slice_get, refl, sym, ◌∙◌, ap, arith}
 use Rattle.std.specs.Option.{option_map_or}
-use Rattle.std.proofs.lemmas.Bool.{false≢true}
-use Rattle.armcaps_caps.specs.Capabilities.{conflicts, is_boot_scope, is_erratum_class, is_local_scope, is_optional, is_panic, is_permitted, is_system_scope, row_says}
-use Rattle.armcaps_caps.specs.Class.{Class, system_feature, erratum, weak_local_feature, boot_feature, strict_boot_feature, in_boot_scope, in_local_scope, in_system_scope, permits, spares, stops, works_around}
+use Rattle.std.proofs.Math.Bool.{or-false}
+use Rattle.armcaps_caps.specs.Capabilities.{conflicts, is_boot_scope, is_workaround, is_local_scope, is_optional, is_panic, is_permitted, is_system_scope, row_says}
+use Rattle.armcaps_caps.specs.Class.{Class, system_feature, erratum, weak_local_feature, boot_feature, strict_boot_feature, in_boot_scope, in_local_scope, in_system_scope, permitted, optional, panic, workaround}
 use Rattle.armcaps_caps.specs.Scopes.{ScopesHold}
 use Rattle.armcaps_caps.specs.Row.{Row}
 use Rattle.armcaps_caps.specs.Rows.{capability_rows}
@@ -15,13 +15,13 @@ pub record HasClass (number : ℕ) (class : Class) : Type 0 where
   pub boot : is_boot_scope number ≡ in_boot_scope class
   pub per_core : is_local_scope number ≡ in_local_scope class
   pub system : is_system_scope number ≡ in_system_scope class
-  pub permitted : is_permitted number ≡ permits class
-  pub optional : is_optional number ≡ spares class
-  pub panic : is_panic number ≡ stops class
-  pub erratum : is_erratum_class number ≡ works_around class
+  pub permitted : is_permitted number ≡ permitted class
+  pub optional : is_optional number ≡ optional class
+  pub panic : is_panic number ≡ panic class
+  pub erratum : is_workaround number ≡ workaround class
 
 pub class_found : (number : ℕ) → number < 53 → (class : Class) × HasClass number class
-unfolding is_boot_scope is_local_scope is_system_scope is_permitted is_optional is_panic is_erratum_class
+unfolding is_boot_scope is_local_scope is_system_scope is_permitted is_optional is_panic is_workaround
 class_found number within =
     let found : (row : Row) × (slice_get capability_rows number ≡ Some row) = row_found number within in
     let says : (test : Class → Bool) → row_says (λ row. test row.class) number ≡ test found.0.class =
@@ -31,10 +31,10 @@ class_found number within =
         boot = says in_boot_scope;
         per_core = says in_local_scope;
         system = says in_system_scope;
-        permitted = says permits;
-        optional = says spares;
-        panic = says stops;
-        erratum = says works_around;
+        permitted = says permitted;
+        optional = says optional;
+        panic = says panic;
+        erratum = says workaround;
       },
     )
 
@@ -44,80 +44,20 @@ pub record ClassHolds (class : Class) : Type 0 where
   pub boot_not_local : in_boot_scope class ≡ true → in_local_scope class ≡ false
   pub boot_not_system : in_boot_scope class ≡ true → in_system_scope class ≡ false
   pub local_not_system : in_local_scope class ≡ true → in_system_scope class ≡ false
-  pub system_permitted : in_system_scope class ≡ true → permits class ≡ true
-  pub system_not_optional : in_system_scope class ≡ true → spares class ≡ false
-  pub local_optional : in_local_scope class ≡ true → spares class ≡ true
-  pub boot_not_optional : in_boot_scope class ≡ true → spares class ≡ false
-  pub panic_boot : stops class ≡ true → in_boot_scope class ≡ true
-  pub erratum_local : works_around class ≡ true → in_local_scope class ≡ true
-  pub erratum_not_permitted : works_around class ≡ true → permits class ≡ false
+  pub system_permitted : in_system_scope class ≡ true → permitted class ≡ true
+  pub system_not_optional : in_system_scope class ≡ true → optional class ≡ false
+  pub local_optional : in_local_scope class ≡ true → optional class ≡ true
+  pub boot_not_optional : in_boot_scope class ≡ true → optional class ≡ false
+  pub panic_boot : panic class ≡ true → in_boot_scope class ≡ true
+  pub erratum_local : workaround class ≡ true → in_local_scope class ≡ true
+  pub erratum_not_permitted : workaround class ≡ true → permitted class ≡ false
 
 pub class_holds : (class : Class) → ClassHolds class
-class_holds system_feature = record {
-  decided = λ b l. refl;
-  boot_not_local = λ h. refl;
-  boot_not_system = λ h. absurd (false≢true h);
-  local_not_system = λ h. absurd (false≢true h);
-  system_permitted = λ h. refl;
-  system_not_optional = λ h. refl;
-  local_optional = λ h. absurd (false≢true h);
-  boot_not_optional = λ h. refl;
-  panic_boot = λ h. absurd (false≢true h);
-  erratum_local = λ h. absurd (false≢true h);
-  erratum_not_permitted = λ h. absurd (false≢true h);
-}
-class_holds erratum = record {
-  decided = λ b l. absurd (false≢true (sym l));
-  boot_not_local = λ h. absurd (false≢true h);
-  boot_not_system = λ h. refl;
-  local_not_system = λ h. refl;
-  system_permitted = λ h. absurd (false≢true h);
-  system_not_optional = λ h. absurd (false≢true h);
-  local_optional = λ h. refl;
-  boot_not_optional = λ h. absurd (false≢true h);
-  panic_boot = λ h. absurd (false≢true h);
-  erratum_local = λ h. refl;
-  erratum_not_permitted = λ h. refl;
-}
-class_holds weak_local_feature = record {
-  decided = λ b l. absurd (false≢true (sym l));
-  boot_not_local = λ h. absurd (false≢true h);
-  boot_not_system = λ h. refl;
-  local_not_system = λ h. refl;
-  system_permitted = λ h. refl;
-  system_not_optional = λ h. absurd (false≢true h);
-  local_optional = λ h. refl;
-  boot_not_optional = λ h. absurd (false≢true h);
-  panic_boot = λ h. absurd (false≢true h);
-  erratum_local = λ h. refl;
-  erratum_not_permitted = λ h. absurd (false≢true h);
-}
-class_holds boot_feature = record {
-  decided = λ b l. absurd (false≢true (sym b));
-  boot_not_local = λ h. refl;
-  boot_not_system = λ h. refl;
-  local_not_system = λ h. refl;
-  system_permitted = λ h. refl;
-  system_not_optional = λ h. refl;
-  local_optional = λ h. absurd (false≢true h);
-  boot_not_optional = λ h. refl;
-  panic_boot = λ h. refl;
-  erratum_local = λ h. absurd (false≢true h);
-  erratum_not_permitted = λ h. absurd (false≢true h);
-}
-class_holds strict_boot_feature = record {
-  decided = λ b l. absurd (false≢true (sym b));
-  boot_not_local = λ h. refl;
-  boot_not_system = λ h. refl;
-  local_not_system = λ h. refl;
-  system_permitted = λ h. absurd (false≢true h);
-  system_not_optional = λ h. refl;
-  local_optional = λ h. absurd (false≢true h);
-  boot_not_optional = λ h. refl;
-  panic_boot = λ h. refl;
-  erratum_local = λ h. absurd (false≢true h);
-  erratum_not_permitted = λ h. refl;
-}
+class_holds system_feature = grind arith
+class_holds erratum = grind arith
+class_holds weak_local_feature = grind arith
+class_holds boot_feature = grind arith
+class_holds strict_boot_feature = grind arith
 
 -- so of every capability
 pub number_holds : (number : ℕ) → number < 53 → ScopesHold number
@@ -148,10 +88,7 @@ pub conflicts-neither : (number : ℕ) → conflicts number false false ≡ fals
 conflicts-neither number = refl
 
 pub conflicts-lacking : (number : ℕ) → conflicts number true false ≡ not (is_optional number)
-conflicts-lacking number = by_cases (not (is_optional number)) where
-  by_cases : (b : Bool) → (b || false) ≡ b
-  by_cases true = refl
-  by_cases false = refl
+conflicts-lacking number = or-false (not (is_optional number))
 
 pub conflicts-bringing : (number : ℕ) → conflicts number false true ≡ not (is_permitted number)
 conflicts-bringing number = refl

@@ -2,19 +2,20 @@
 use Rattle.std.proofs.Common.{◌≡◌, ℕ, ◌<◌, Bool, true, false, ◌&&◌, [], length, get_or, Option, Some, None, IfSome, IsSome, map, slice_get, refl, sym, ◌∙◌, ap, subst, inl, inr, arith, zero-add}
 use Rattle.std.specs.List.{list_all, range_with_len}
 use Rattle.std.specs.Option.{option_map, option_map_or}
-use Rattle.std.proofs.lemmas.Bool.{false≢true}
+use Rattle.std.proofs.lemmas.Bool.{false≢true, and_parts}
 use Rattle.std.proofs.lemmas.List.FromFn.{get_or-range_with_len}
 use Rattle.std.proofs.lemmas.Option.{get_or_from_slice_get, slice_get-map, slice_get_cases, slice_get_within}
+use Rattle.armcaps_logic.proofs.Options.{some_from_passing}
+use Rattle.armcaps_logic.proofs.Searches.{list_all-item}
 use Rattle.armcaps_enc.specs.declared.register.SysReg.{SysReg}
 use Rattle.armcaps_tables.specs.Row.{Row as FieldRow}
 use Rattle.armcaps_tables.specs.Rows.{rows_of, id_aa64pfr0_rows, id_aa64pfr1_rows, id_aa64smfr0_rows, id_aa64isar0_rows, id_aa64isar1_rows, id_aa64isar2_rows, id_aa64mmfr0_rows, id_aa64mmfr1_rows, id_aa64mmfr2_rows, id_aa64mmfr3_rows}
-use Rattle.armcaps_tables.proofs.Places.{all_at}
 use Rattle.armcaps_errata.specs.Errata.{errata_count, errata_rows}
 use Rattle.armcaps_sanit.specs.Reaching.{field_passes}
 use Rattle.armcaps_caps.specs.declared.cap_row.Test.{Test}
 use Rattle.armcaps_caps.specs.declared.cap_row.Test.TheVariants.{Always, AtLeast, SameAsBoot, Erratum, CacheType}
 use Rattle.armcaps_caps.specs.declared.cap_row.CapRow.{CapRow}
-use Rattle.armcaps_caps.specs.Class.{Class, system_feature, erratum, weak_local_feature, boot_feature, strict_boot_feature, in_boot_scope, in_local_scope, in_system_scope, permits, spares, stops}
+use Rattle.armcaps_caps.specs.Class.{Class, system_feature, erratum, weak_local_feature, boot_feature, strict_boot_feature, in_boot_scope, in_local_scope, in_system_scope, permitted, optional, panic}
 use Rattle.armcaps_caps.specs.Flags.{flags_of}
 use Rattle.armcaps_caps.specs.RowFlags.{has_flag, HasFlags}
 use Rattle.armcaps_caps.specs.Row.{Row}
@@ -53,7 +54,7 @@ number_at number row at =
 
 -- a row passes the test of the table
 pub row_at : (number : ℕ) (row : Row) → slice_get capability_rows number ≡ Some row → row_holds row ≡ true
-row_at number row at = all_at row_holds capability_rows number row rows_hold at
+row_at number row at = list_all-item row_holds capability_rows number row rows_hold at
 
 -- the row of a number below 53
 pub row_found : (number : ℕ) → number < 53 → (row : Row) × (slice_get capability_rows number ≡ Some row)
@@ -63,22 +64,11 @@ row_found number within =
       | inr past ↦ absurd (omega (arith, all_listed, past.0))
     ]
 
--- what the two parts of a test that holds say
-both : (a b : Bool) → (a && b) ≡ true → (a ≡ true) × (b ≡ true)
-both true b h = (refl, h)
-both false b h = absurd (false≢true h)
-
--- the test of an option that passes
-pub passing : {X : Type 0} (test : X → Bool) (found : Option X) → option_map_or test found false ≡ true
-    → (x : X) × (found ≡ Some x) × (test x ≡ true)
-passing test None h = absurd (false≢true h)
-passing test (Some x) h = (x, refl, h)
-
 -- a field that passes a test is one that the register has
 pub field_within : (test : FieldRow → Bool) (reg : SysReg) (index : ℕ) → field_passes test reg index ≡ true
     → index < length (rows_of reg)
 field_within test reg index passes =
-    let found = passing test (slice_get (rows_of reg) index) passes in
+    let found = some_from_passing test (slice_get (rows_of reg) index) passes in
     slice_get_within (rows_of reg) index found.0 found.1
 
 -- a test that holds can be asked
@@ -87,7 +77,7 @@ askable number Always holds = tt
 askable number (AtLeast reg index minimum) holds = field_within _ reg index holds
 askable number (SameAsBoot reg index minimum) holds = field_within _ reg index holds
 askable number (Erratum index) holds =
-    let found = passing _ (slice_get errata_rows index) holds in
+    let found = some_from_passing _ (slice_get errata_rows index) holds in
     omega (arith, all_errata, slice_get_within errata_rows index found.0 found.1)
 askable number CacheType holds = tt
 
@@ -95,8 +85,8 @@ askable number CacheType holds = tt
 pub test_at_holds : (number : ℕ) (row : Row) → slice_get capability_rows number ≡ Some row
     → (test_holds number row.test ≡ true) × (scope_holds row.class row.test ≡ true)
 test_at_holds number row at =
-    let tests = both (test_holds row.number row.test && scope_holds row.class row.test) _ (row_at number row at) in
-    let parts = both (test_holds row.number row.test) (scope_holds row.class row.test) tests.0 in
+    let tests = and_parts (test_holds row.number row.test && scope_holds row.class row.test) _ (row_at number row at) in
+    let parts = and_parts (test_holds row.number row.test) (scope_holds row.class row.test) tests.0 in
     (ap (λ n. test_holds n row.test) (sym (number_at number row at)) ∙ parts.0, parts.1)
 
 -- what holds of a row of the code where it has the columns of the row at the place
@@ -179,21 +169,21 @@ flags_system weak_local_feature = refl
 flags_system boot_feature = refl
 flags_system strict_boot_feature = refl
 
-flags_permitted : (class : Class) → has_flag (flags_of class) 8 ≡ permits class
+flags_permitted : (class : Class) → has_flag (flags_of class) 8 ≡ permitted class
 flags_permitted system_feature = refl
 flags_permitted erratum = refl
 flags_permitted weak_local_feature = refl
 flags_permitted boot_feature = refl
 flags_permitted strict_boot_feature = refl
 
-flags_optional : (class : Class) → has_flag (flags_of class) 16 ≡ spares class
+flags_optional : (class : Class) → has_flag (flags_of class) 16 ≡ optional class
 flags_optional system_feature = refl
 flags_optional erratum = refl
 flags_optional weak_local_feature = refl
 flags_optional boot_feature = refl
 flags_optional strict_boot_feature = refl
 
-flags_panic : (class : Class) → has_flag (flags_of class) 32 ≡ stops class
+flags_panic : (class : Class) → has_flag (flags_of class) 32 ≡ panic class
 flags_panic system_feature = refl
 flags_panic erratum = refl
 flags_panic weak_local_feature = refl
@@ -221,7 +211,7 @@ found_flags number found same =
       boot = flag_at number 1 in_boot_scope at row.flags.0 is own flags_boot;
       per_core = flag_at number 2 in_local_scope at row.flags.0 is own flags_local;
       system = flag_at number 4 in_system_scope at row.flags.0 is own flags_system;
-      permitted = flag_at number 8 permits at row.flags.0 is own flags_permitted;
-      optional = flag_at number 16 spares at row.flags.0 is own flags_optional;
-      panic = flag_at number 32 stops at row.flags.0 is own flags_panic;
+      permitted = flag_at number 8 permitted at row.flags.0 is own flags_permitted;
+      optional = flag_at number 16 optional at row.flags.0 is own flags_optional;
+      panic = flag_at number 32 panic at row.flags.0 is own flags_panic;
     })

@@ -15,7 +15,7 @@ use Rattle.armcaps_sanit.specs.System.{local_field, system_field}
 use Rattle.armcaps_sanit.specs.Varying.{word_varies}
 use Rattle.armcaps_caps.specs.declared.cap_row.Test.{Test}
 use Rattle.armcaps_caps.specs.declared.cap_row.Test.TheVariants.{Always, AtLeast, SameAsBoot, Erratum, CacheType}
-use Rattle.armcaps_caps.specs.Class.{in_boot_scope, in_local_scope, in_system_scope, permits, spares, stops, works_around}
+use Rattle.armcaps_caps.specs.Class.{in_boot_scope, in_local_scope, in_system_scope, permitted, optional, panic, workaround}
 use Rattle.armcaps_caps.specs.Row.{Row}
 use Rattle.armcaps_caps.specs.Rows.{capability_rows}
 
@@ -35,19 +35,19 @@ is_system_scope number = row_says (λ row. in_system_scope row.class) number
 
 -- whether a core that comes later may have it though it is not enabled
 unfoldable pub is_permitted : ℕ → Bool
-is_permitted number = row_says (λ row. permits row.class) number
+is_permitted number = row_says (λ row. permitted row.class) number
 
 -- whether a core that comes later may lack it though it is enabled
 unfoldable pub is_optional : ℕ → Bool
-is_optional number = row_says (λ row. spares row.class) number
+is_optional number = row_says (λ row. optional row.class) number
 
 -- whether a core that conflicts with it stops the machine
 unfoldable pub is_panic : ℕ → Bool
-is_panic number = row_says (λ row. stops row.class) number
+is_panic number = row_says (λ row. panic row.class) number
 
 -- whether it works around an erratum
-unfoldable pub is_erratum_class : ℕ → Bool
-is_erratum_class number = row_says (λ row. works_around row.class) number
+unfoldable pub is_workaround : ℕ → Bool
+is_workaround number = row_says (λ row. workaround row.class) number
 
 -- its name, which is empty where there is no such capability
 unfoldable pub capability_name : ℕ → List ℕ

@@ -27,24 +27,24 @@ in_system_scope system_feature = true
 in_system_scope _ = false
 
 -- a core that comes later may have it though it is not enabled
-abbrev pub permits : Class → Bool
-permits system_feature = true
-permits weak_local_feature = true
-permits boot_feature = true
-permits _ = false
+abbrev pub permitted : Class → Bool
+permitted system_feature = true
+permitted weak_local_feature = true
+permitted boot_feature = true
+permitted _ = false
 
 -- a core that comes later may lack it though it is enabled
-abbrev pub spares : Class → Bool
-spares erratum = true
-spares weak_local_feature = true
-spares _ = false
+abbrev pub optional : Class → Bool
+optional erratum = true
+optional weak_local_feature = true
+optional _ = false
 
 -- a core that comes later and conflicts with it stops the whole machine
-abbrev pub stops : Class → Bool
-stops strict_boot_feature = true
-stops _ = false
+abbrev pub panic : Class → Bool
+panic strict_boot_feature = true
+panic _ = false
 
 -- whether it is a workaround for an erratum
-abbrev pub works_around : Class → Bool
-works_around erratum = true
-works_around _ = false
+abbrev pub workaround : Class → Bool
+workaround erratum = true
+workaround _ = false

@@ -1,6 +1,6 @@
 -- What holds of the class of every capability.
 use Rattle.std.specs.Prelude.{◌≡◌, ℕ, true, false}
-use Rattle.armcaps_caps.specs.Capabilities.{is_boot_scope, is_erratum_class, is_local_scope, is_optional, is_panic, is_permitted, is_system_scope}
+use Rattle.armcaps_caps.specs.Capabilities.{is_boot_scope, is_workaround, is_local_scope, is_optional, is_panic, is_permitted, is_system_scope}
 
 -- a capability is decided in one way; one of system scope is permitted and not optional, one of local scope is
 -- optional, one that stops the machine is of boot scope, and one that works around an erratum is of local scope and not
@@ -15,5 +15,5 @@ pub record ScopesHold (number : ℕ) : Type 0 where
   pub local_optional : is_local_scope number ≡ true → is_optional number ≡ true
   pub boot_not_optional : is_boot_scope number ≡ true → is_optional number ≡ false
   pub panic_boot : is_panic number ≡ true → is_boot_scope number ≡ true
-  pub erratum_local : is_erratum_class number ≡ true → is_local_scope number ≡ true
-  pub erratum_not_permitted : is_erratum_class number ≡ true → is_permitted number ≡ false
+  pub erratum_local : is_workaround number ≡ true → is_local_scope number ≡ true
+  pub erratum_not_permitted : is_workaround number ≡ true → is_permitted number ≡ false

@@ -10,24 +10,24 @@ ghost use Rattle.armcaps_caps.specs.Rows.{capability_count, capability_rows};
 
 use crate::cap_flags::CapFlags;
 use crate::cap_row::{CapRow, Test};
-use armcaps_enc::SysReg;
+use armcaps_tables::fields;
 
 /// How many capabilities there are. Their numbers are those below it.
 pub const CAPABILITIES: u16 = 53;
 
-// A test from its words in a line.
+// A test from its words in a line: a field by its name, and the least value that counts.
 macro_rules! test {
-    (AtLeast $reg:ident $index:literal, $min:literal) => {
+    (AtLeast $field:ident $min:literal) => {
         Test::AtLeast {
-            reg: SysReg::$reg,
-            index: $index,
+            reg: fields::$field.reg,
+            index: fields::$field.index,
             min: $min,
         }
     };
-    (SameAsBoot $reg:ident $index:literal, $min:literal) => {
+    (SameAsBoot $field:ident $min:literal) => {
         Test::SameAsBoot {
-            reg: SysReg::$reg,
-            index: $index,
+            reg: fields::$field.reg,
+            index: fields::$field.index,
             min: $min,
         }
     };
@@ -42,13 +42,13 @@ macro_rules! test {
 // The row at a place of the table.
 macro_rules! row_at {
     ($number:ident
-        $($place:literal => $name:literal, $class:ident, $($test:ident)+ $($index:literal $(, $min:literal)?)?;)*) => {
+        $($place:literal => $name:literal, $class:ident, $($test:ident)+ $($value:literal)?;)*) => {
         match $number {
             $($place => Some(CapRow {
                 number: $place,
                 name: $name,
                 flags: CapFlags::$class,
-                test: test!($($test)+ $($index $(, $min)?)?),
+                test: test!($($test)+ $($value)?),
             }),)*
             _ => None,
         }
@@ -67,7 +67,7 @@ pub fn cap(number: u16) -> Option<CapRow>
     row_of_table(number)
 }
 
-// The row that the table has. Behind a line stands the name of the field that it tests.
+// The row that the table has.
 #[tactic(auto, unfolding(crate::specs::Rows::capability_rows, armcaps_tables::specs::Rows::id_aa64pfr0_rows, armcaps_tables::specs::Rows::id_aa64pfr1_rows, armcaps_tables::specs::Rows::id_aa64smfr0_rows, armcaps_tables::specs::Rows::id_aa64isar0_rows, armcaps_tables::specs::Rows::id_aa64isar1_rows, armcaps_tables::specs::Rows::id_aa64isar2_rows, armcaps_tables::specs::Rows::id_aa64mmfr0_rows, armcaps_tables::specs::Rows::id_aa64mmfr1_rows, armcaps_tables::specs::Rows::id_aa64mmfr2_rows, armcaps_tables::specs::Rows::id_aa64mmfr3_rows))]
 fn row_of_table(number: u16) -> Option<CapRow>
     ensures { option_map columns_of result ≡ option_map columns_listed (slice_get capability_rows number) }
@@ -75,46 +75,46 @@ fn row_of_table(number: u16) -> Option<CapRow>
     row_at! { number
         0 => "ALWAYS_BOOT", BOOT_FEATURE, Always;
         1 => "ALWAYS_SYSTEM", SYSTEM_FEATURE, Always;
-        2 => "HAS_ADDRESS_AUTH_ARCH_QARMA5", BOOT_FEATURE, SameAsBoot IdAa64Isar1El1 1, 1; // isar1.apa
-        3 => "HAS_ADDRESS_AUTH_ARCH_QARMA3", BOOT_FEATURE, SameAsBoot IdAa64Isar2El1 3, 1; // isar2.apa3
-        4 => "HAS_ADDRESS_AUTH_IMP_DEF", BOOT_FEATURE, SameAsBoot IdAa64Isar1El1 2, 1; // isar1.api
-        5 => "MTE", STRICT_BOOT_FEATURE, AtLeast IdAa64Pfr1El1 2, 2; // pfr1.mte
-        6 => "MTE_ASYMM", BOOT_FEATURE, AtLeast IdAa64Pfr1El1 2, 3; // pfr1.mte
-        7 => "HAS_LSE_ATOMICS", SYSTEM_FEATURE, AtLeast IdAa64Isar0El1 4, 2; // isar0.atomic
-        8 => "HAS_CRC32", SYSTEM_FEATURE, AtLeast IdAa64Isar0El1 3, 1; // isar0.crc32
-        9 => "HAS_RNG", SYSTEM_FEATURE, AtLeast IdAa64Isar0El1 13, 1; // isar0.rndr
-        10 => "HAS_TLB_RANGE", SYSTEM_FEATURE, AtLeast IdAa64Isar0El1 12, 2; // isar0.tlb
-        11 => "HAS_DCPOP", SYSTEM_FEATURE, AtLeast IdAa64Isar1El1 0, 1; // isar1.dpb
-        12 => "HAS_DCPODP", SYSTEM_FEATURE, AtLeast IdAa64Isar1El1 0, 2; // isar1.dpb
-        13 => "HAS_LDAPR", SYSTEM_FEATURE, AtLeast IdAa64Isar1El1 5, 1; // isar1.lrcpc
-        14 => "HAS_SB", SYSTEM_FEATURE, AtLeast IdAa64Isar1El1 9, 1; // isar1.sb
-        15 => "HAS_GENERIC_AUTH_ARCH_QARMA5", SYSTEM_FEATURE, AtLeast IdAa64Isar1El1 6, 1; // isar1.gpa
-        16 => "HAS_GENERIC_AUTH_ARCH_QARMA3", SYSTEM_FEATURE, AtLeast IdAa64Isar2El1 2, 1; // isar2.gpa3
-        17 => "HAS_GENERIC_AUTH_IMP_DEF", SYSTEM_FEATURE, AtLeast IdAa64Isar1El1 7, 1; // isar1.gpi
-        18 => "HAS_WFXT", SYSTEM_FEATURE, AtLeast IdAa64Isar2El1 0, 2; // isar2.wfxt
-        19 => "HAS_MOPS", SYSTEM_FEATURE, AtLeast IdAa64Isar2El1 4, 1; // isar2.mops
-        20 => "HAS_PAN", SYSTEM_FEATURE, AtLeast IdAa64Mmfr1El1 5, 1; // mmfr1.pan
-        21 => "HAS_EPAN", SYSTEM_FEATURE, AtLeast IdAa64Mmfr1El1 5, 3; // mmfr1.pan
-        22 => "HW_DBM", WEAK_LOCAL_FEATURE, AtLeast IdAa64Mmfr1El1 0, 2; // mmfr1.hafdbs
-        23 => "HAS_CNP", SYSTEM_FEATURE, AtLeast IdAa64Mmfr2El1 0, 1; // mmfr2.cnp
-        24 => "HAS_ARMv8_4_TTL", SYSTEM_FEATURE, AtLeast IdAa64Mmfr2El1 6, 1; // mmfr2.ttl
-        25 => "HAS_STAGE2_FWB", SYSTEM_FEATURE, AtLeast IdAa64Mmfr2El1 5, 1; // mmfr2.fwb
-        26 => "HAS_EVT", SYSTEM_FEATURE, AtLeast IdAa64Mmfr2El1 7, 2; // mmfr2.evt
-        27 => "HAS_E0PD", SYSTEM_FEATURE, AtLeast IdAa64Mmfr2El1 8, 1; // mmfr2.e0pd
-        28 => "HAS_FGT", SYSTEM_FEATURE, AtLeast IdAa64Mmfr0El1 8, 1; // mmfr0.fgt
-        29 => "HAS_ECV_CNTPOFF", SYSTEM_FEATURE, AtLeast IdAa64Mmfr0El1 9, 2; // mmfr0.ecv
-        30 => "HAS_HCX", STRICT_BOOT_FEATURE, AtLeast IdAa64Mmfr1El1 8, 1; // mmfr1.hcx
-        31 => "HAS_TIDCP1", SYSTEM_FEATURE, AtLeast IdAa64Mmfr1El1 10, 1; // mmfr1.tidcp1
-        32 => "HAS_TCR2", SYSTEM_FEATURE, AtLeast IdAa64Mmfr3El1 0, 1; // mmfr3.tcrx
-        33 => "HAS_S1PIE", BOOT_FEATURE, AtLeast IdAa64Mmfr3El1 1, 1; // mmfr3.s1pie
-        34 => "HAS_RAS_EXTN", SYSTEM_FEATURE, AtLeast IdAa64Pfr0El1 7, 1; // pfr0.ras
-        35 => "HAS_DIT", SYSTEM_FEATURE, AtLeast IdAa64Pfr0El1 12, 1; // pfr0.dit
-        36 => "SVE", SYSTEM_FEATURE, AtLeast IdAa64Pfr0El1 8, 1; // pfr0.sve
-        37 => "SME", SYSTEM_FEATURE, AtLeast IdAa64Pfr1El1 5, 1; // pfr1.sme
-        38 => "SME_FA64", SYSTEM_FEATURE, AtLeast IdAa64Smfr0El1 7, 1; // smfr0.fa64
-        39 => "BTI", STRICT_BOOT_FEATURE, AtLeast IdAa64Pfr1El1 0, 1; // pfr1.bt
-        40 => "SSBS", SYSTEM_FEATURE, AtLeast IdAa64Pfr1El1 1, 1; // pfr1.ssbs
-        41 => "HAS_FPSIMD", SYSTEM_FEATURE, AtLeast IdAa64Pfr0El1 4, 0; // pfr0.fp
+        2 => "HAS_ADDRESS_AUTH_ARCH_QARMA5", BOOT_FEATURE, SameAsBoot ID_AA64ISAR1_APA 1;
+        3 => "HAS_ADDRESS_AUTH_ARCH_QARMA3", BOOT_FEATURE, SameAsBoot ID_AA64ISAR2_APA3 1;
+        4 => "HAS_ADDRESS_AUTH_IMP_DEF", BOOT_FEATURE, SameAsBoot ID_AA64ISAR1_API 1;
+        5 => "MTE", STRICT_BOOT_FEATURE, AtLeast ID_AA64PFR1_MTE 2;
+        6 => "MTE_ASYMM", BOOT_FEATURE, AtLeast ID_AA64PFR1_MTE 3;
+        7 => "HAS_LSE_ATOMICS", SYSTEM_FEATURE, AtLeast ID_AA64ISAR0_ATOMIC 2;
+        8 => "HAS_CRC32", SYSTEM_FEATURE, AtLeast ID_AA64ISAR0_CRC32 1;
+        9 => "HAS_RNG", SYSTEM_FEATURE, AtLeast ID_AA64ISAR0_RNDR 1;
+        10 => "HAS_TLB_RANGE", SYSTEM_FEATURE, AtLeast ID_AA64ISAR0_TLB 2;
+        11 => "HAS_DCPOP", SYSTEM_FEATURE, AtLeast ID_AA64ISAR1_DPB 1;
+        12 => "HAS_DCPODP", SYSTEM_FEATURE, AtLeast ID_AA64ISAR1_DPB 2;
+        13 => "HAS_LDAPR", SYSTEM_FEATURE, AtLeast ID_AA64ISAR1_LRCPC 1;
+        14 => "HAS_SB", SYSTEM_FEATURE, AtLeast ID_AA64ISAR1_SB 1;
+        15 => "HAS_GENERIC_AUTH_ARCH_QARMA5", SYSTEM_FEATURE, AtLeast ID_AA64ISAR1_GPA 1;
+        16 => "HAS_GENERIC_AUTH_ARCH_QARMA3", SYSTEM_FEATURE, AtLeast ID_AA64ISAR2_GPA3 1;
+        17 => "HAS_GENERIC_AUTH_IMP_DEF", SYSTEM_FEATURE, AtLeast ID_AA64ISAR1_GPI 1;
+        18 => "HAS_WFXT", SYSTEM_FEATURE, AtLeast ID_AA64ISAR2_WFXT 2;
+        19 => "HAS_MOPS", SYSTEM_FEATURE, AtLeast ID_AA64ISAR2_MOPS 1;
+        20 => "HAS_PAN", SYSTEM_FEATURE, AtLeast ID_AA64MMFR1_PAN 1;
+        21 => "HAS_EPAN", SYSTEM_FEATURE, AtLeast ID_AA64MMFR1_PAN 3;
+        22 => "HW_DBM", WEAK_LOCAL_FEATURE, AtLeast ID_AA64MMFR1_HAFDBS 2;
+        23 => "HAS_CNP", SYSTEM_FEATURE, AtLeast ID_AA64MMFR2_CNP 1;
+        24 => "HAS_ARMv8_4_TTL", SYSTEM_FEATURE, AtLeast ID_AA64MMFR2_TTL 1;
+        25 => "HAS_STAGE2_FWB", SYSTEM_FEATURE, AtLeast ID_AA64MMFR2_FWB 1;
+        26 => "HAS_EVT", SYSTEM_FEATURE, AtLeast ID_AA64MMFR2_EVT 2;
+        27 => "HAS_E0PD", SYSTEM_FEATURE, AtLeast ID_AA64MMFR2_E0PD 1;
+        28 => "HAS_FGT", SYSTEM_FEATURE, AtLeast ID_AA64MMFR0_FGT 1;
+        29 => "HAS_ECV_CNTPOFF", SYSTEM_FEATURE, AtLeast ID_AA64MMFR0_ECV 2;
+        30 => "HAS_HCX", STRICT_BOOT_FEATURE, AtLeast ID_AA64MMFR1_HCX 1;
+        31 => "HAS_TIDCP1", SYSTEM_FEATURE, AtLeast ID_AA64MMFR1_TIDCP1 1;
+        32 => "HAS_TCR2", SYSTEM_FEATURE, AtLeast ID_AA64MMFR3_TCRX 1;
+        33 => "HAS_S1PIE", BOOT_FEATURE, AtLeast ID_AA64MMFR3_S1PIE 1;
+        34 => "HAS_RAS_EXTN", SYSTEM_FEATURE, AtLeast ID_AA64PFR0_RAS 1;
+        35 => "HAS_DIT", SYSTEM_FEATURE, AtLeast ID_AA64PFR0_DIT 1;
+        36 => "SVE", SYSTEM_FEATURE, AtLeast ID_AA64PFR0_SVE 1;
+        37 => "SME", SYSTEM_FEATURE, AtLeast ID_AA64PFR1_SME 1;
+        38 => "SME_FA64", SYSTEM_FEATURE, AtLeast ID_AA64SMFR0_FA64 1;
+        39 => "BTI", STRICT_BOOT_FEATURE, AtLeast ID_AA64PFR1_BT 1;
+        40 => "SSBS", SYSTEM_FEATURE, AtLeast ID_AA64PFR1_SSBS 1;
+        41 => "HAS_FPSIMD", SYSTEM_FEATURE, AtLeast ID_AA64PFR0_FP 0;
         42 => "MISMATCHED_CACHE_TYPE", ERRATUM, CacheType;
         43 => "WORKAROUND_843419", ERRATUM, Erratum 0;
         44 => "WORKAROUND_845719", ERRATUM, Erratum 1;

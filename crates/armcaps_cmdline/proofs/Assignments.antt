@@ -9,6 +9,7 @@ use Rattle.std.proofs.lemmas.List.FromFn.{map-range_with_len_more}
 use Rattle.std.proofs.Math.Pow.{pow-lt}
 use Rattle.std.proofs.lemmas.List.{reverse-append}
 use Rattle.std.proofs.lemmas.List.Folds.{find-append, find_at}
+use Rattle.armcaps_logic.proofs.Options.{option_or-assoc}
 use Rattle.armcaps_enc.specs.declared.register.SysReg.{SysReg}
 use Rattle.armcaps_enc.specs.declared.register.SysReg.TheVariants.{IdAa64Pfr0El1, IdAa64Pfr1El1, IdAa64Zfr0El1, IdAa64Smfr0El1}
 use Rattle.armcaps_enc.specs.Registers.{place_of}
@@ -50,10 +51,6 @@ given_override-append xs ys register index =
     by_row None both later earlier e = refl
     by_row (Some row) both None earlier e = rw e refl
     by_row (Some row) both (Some number) earlier e = rw e refl
-
-pub option_or-assoc : {X : Type 0} (a b c : Option X) → option_or a (option_or b c) ≡ option_or (option_or a b) c
-option_or-assoc None b c = refl
-option_or-assoc (Some x) b c = refl
 
 -- nothing to assign
 pub no_override : (register : SysReg) (index : ℕ) → given_override [] register index ≡ None

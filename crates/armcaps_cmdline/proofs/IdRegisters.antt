@@ -3,8 +3,8 @@ use Rattle.std.proofs.Common.{◌≡◌, ℕ, ◌==◌, ◌&&◌, Bool, true, fa
 use Rattle.std.specs.Option.{option_map, option_map_or, option_and_then, option_or, option_to_list}
 use Rattle.std.specs.Str.{bytes_eq}
 use Rattle.std.specs.List.{list_all, flat_map, position, range_with_len}
-use Rattle.std.proofs.lemmas.Bool.{eqb-true, false≢true}
-use Rattle.std.proofs.lemmas.List.Folds.{list_all-append}
+use Rattle.std.proofs.lemmas.Bool.{eqb-true, false≢true, and_from}
+use Rattle.armcaps_logic.proofs.Searches.{list_all-both}
 use Rattle.armcaps_enc.specs.declared.register.SysReg.{SysReg}
 use Rattle.armcaps_enc.specs.declared.register.SysReg.TheVariants.{IdAa64Pfr0El1, IdAa64Pfr1El1, IdAa64Zfr0El1, IdAa64Smfr0El1}
 use Rattle.armcaps_enc.specs.Registers.{is_id_register, place_of, short_name_of, tracked}
@@ -28,14 +28,6 @@ to_id assignment = is_id_register assignment.register
 abbrev of_id : Setting → Bool
 of_id setting = is_id_register setting.register
 
-both : (a b : Bool) → a ≡ true → b ≡ true → (a && b) ≡ true
-both a b h k = rw (h, k) refl
-
--- what a list's pieces pass, the list passes
-all_of_both : {X : Type 0} (p : X → Bool) (xs ys : List X) → list_all p xs ≡ true → list_all p ys ≡ true
-    → list_all p (xs ++ ys) ≡ true
-all_of_both p xs ys h k = list_all-append p xs ys ∙ both (list_all p xs) (list_all p ys) h k
-
 all_of_each : {X Y : Type 0} (p : Y → Bool) (q : X → Bool) (f : X → List Y)
     → ((x : X) → q x ≡ true → list_all p (f x) ≡ true) → (xs : List X) → list_all q xs ≡ true
     → list_all p (flat_map f xs) ≡ true
@@ -46,7 +38,7 @@ all_of_each p q f each (x ∷ xs) h = by_first (q x) (list_all q xs) refl refl h
         → (list_all q xs ≡ true → list_all p (flat_map f xs) ≡ true) → list_all p (f x ++ flat_map f xs) ≡ true
     by_first false b e g h more = absurd (false≢true h)
     by_first true false e g h more = absurd (false≢true h)
-    by_first true true e g h more = all_of_both p (f x) (flat_map f xs) (each x e) (more g)
+    by_first true true e g h more = list_all-both p (f x) (flat_map f xs) (each x e) (more g)
 
 all_true : {X : Type 0} (xs : List X) → list_all (λ _. true) xs ≡ true
 all_true [] = refl
@@ -67,7 +59,7 @@ zeros_id : (register : SysReg) (indices : List ℕ) → is_id_register register 
     → list_all to_id (map (λ index. record { register = register; index = index; number = 0 }) indices) ≡ true
 zeros_id register [] h = refl
 zeros_id register (index ∷ indices) h =
-    both (is_id_register register) (list_all to_id
+    and_from (is_id_register register) (list_all to_id
     (map (λ index. record { register = register; index = index; number = 0 }) indices)) h (zeros_id register indices h)
 
 zeros_for_id : (register : SysReg) → is_id_register register ≡ true → list_all to_id (zeros_for register) ≡ true
@@ -83,9 +75,9 @@ dependents_id register field =
         (assigned IdAa64Pfr1El1 (codes "sme") 0 ++ zeros_for IdAa64Smfr0El1))
         (cond sme (zeros_for IdAa64Smfr0El1) [])) ≡ true
     by_tests true sme =
-        all_of_both to_id (zeros_for IdAa64Zfr0El1)
+        list_all-both to_id (zeros_for IdAa64Zfr0El1)
         (assigned IdAa64Pfr1El1 (codes "sme") 0 ++ zeros_for IdAa64Smfr0El1) (zeros_for_id IdAa64Zfr0El1 refl)
-        (all_of_both to_id (assigned IdAa64Pfr1El1 (codes "sme") 0) (zeros_for IdAa64Smfr0El1)
+        (list_all-both to_id (assigned IdAa64Pfr1El1 (codes "sme") 0) (zeros_for IdAa64Smfr0El1)
         (assigned_id IdAa64Pfr1El1 (codes "sme") 0 refl) (zeros_for_id IdAa64Smfr0El1 refl))
     by_tests false true = zeros_for_id IdAa64Smfr0El1 refl
     by_tests false false = refl
@@ -93,7 +85,7 @@ dependents_id register field =
 -- a setting
 setting_id : (setting : Setting) → of_id setting ≡ true → list_all to_id (assignments_to setting) ≡ true
 setting_id setting h =
-    all_of_both to_id (assigned setting.register setting.field setting.number)
+    list_all-both to_id (assigned setting.register setting.field setting.number)
     (cond (is_cut_to_zero setting.register setting.field setting.number) (dependents setting.register setting.field) [])
     (assigned_id setting.register setting.field setting.number h)
     (by_test (is_cut_to_zero setting.register setting.field setting.number))

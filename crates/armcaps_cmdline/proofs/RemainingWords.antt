@@ -1,14 +1,15 @@
 -- Overrides while the words of a command line are read one after the other.
-use Rattle.std.proofs.Common.{◌≡◌, ℕ, List, [], ◌∷◌, Option, Some, None, refl, sym, ap, ◌∙◌}
+use Rattle.std.proofs.Common.{◌≡◌, ℕ, List, [], ◌∷◌, Option, None, sym, ap, ◌∙◌}
 use Rattle.std.specs.Option.{option_or}
 use Rattle.std.specs.List.{flat_map}
+use Rattle.armcaps_logic.proofs.Options.{option_or-assoc, option_or-none}
 use Rattle.armcaps_enc.specs.declared.register.SysReg.{SysReg}
 use Rattle.armcaps_tables.specs.Overriding.{FieldOverrides, IsWhole, no_overrides, override_of}
 use Rattle.armcaps_tables.proofs.Overriding.{by-same, none_at, none_sound}
 use Rattle.armcaps_cmdline.specs.Words.{counted_words}
 use Rattle.armcaps_cmdline.specs.Assignments.{Assignment, assignments_of, assignments}
 use Rattle.armcaps_cmdline.specs.Overrides.{given_override, command_line_override, command_line_overrides, Assigns}
-use Rattle.armcaps_cmdline.proofs.Assignments.{option_or-assoc, no_override, given_override-append}
+use Rattle.armcaps_cmdline.proofs.Assignments.{no_override, given_override-append}
 
 -- what is left of a text turns these overrides into those of the whole text
 pub record Remains (text rest : List ℕ) (overrides : FieldOverrides) : Type 0 where
@@ -16,10 +17,6 @@ pub record Remains (text rest : List ℕ) (overrides : FieldOverrides) : Type 0 
       → option_or (given_override (assignments rest) register index) (override_of overrides register index)
       ≡ command_line_override text register index
   pub whole : IsWhole overrides
-
-option_or-none : {X : Type 0} (o : Option X) → option_or o None ≡ o
-option_or-none None = refl
-option_or-none (Some x) = refl
 
 -- at the start all is left
 pub remains_all : (text : List ℕ) (overrides : FieldOverrides) → overrides ≡ no_overrides → Remains text text overrides

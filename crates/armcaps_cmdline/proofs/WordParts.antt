@@ -1,12 +1,8 @@
 -- The parts of a word round its first byte that passes a test.
-use Rattle.std.proofs.Common.{◌≡◌, ℕ, ◌+◌, ◌-◌, ◌≤◌, Bool, List, [], length, take, drop, Some, None, ap, ◌∙◌, arith}
-use Rattle.std.specs.List.{position, position_or_len, before_first, after_first}
+use Rattle.std.proofs.Common.{◌≡◌, ℕ, ◌+◌, ◌-◌, Bool, List, [], length, take, drop, Some, None, ap, ◌∙◌, arith}
+use Rattle.std.specs.List.{position, before_first, after_first}
 use Rattle.std.proofs.lemmas.Grind.{common_steps}
-use Rattle.std.proofs.lemmas.Bool.Decides.{nat_tests}
-use Rattle.armcaps_lex.proofs.PieceLemmas.{position_some}
-
-position_none : (p : ℕ → Bool) (xs : List ℕ) → position p xs ≡ None → length xs ≤ position_or_len p xs
-position_none p xs h = grind (arith, nat_tests)
+use Rattle.armcaps_logic.proofs.Searches.{position_none, position_some}
 
 -- the parts round the first byte that passes, at its place
 pub before_some : (p : ℕ → Bool) (xs : List ℕ) (place : ℕ) → position p xs ≡ Some place

@@ -2,11 +2,11 @@
 use Rattle.std.proofs.Common.{◌≡◌, ℕ, ◌+◌, ◌<◌, ◌≤◌, suc, zero, Bool, true, false, not, ◌&&◌, nat_le, IsSome, List, [], ◌∷◌, length, Option, Some, None, slice_get, refl, ◌∙◌, ap, subst, inl, inr, arith}
 use Rattle.std.specs.List.{list_all}
 use Rattle.std.specs.Option.{option_map}
-use Rattle.std.proofs.lemmas.Bool.{false≢true, leb-true}
+use Rattle.std.proofs.lemmas.Bool.{leb-true, and_parts}
 use Rattle.std.proofs.lemmas.Option.{slice_get_cases}
+use Rattle.armcaps_logic.proofs.Searches.{list_all-item}
 use Rattle.armcaps_rule.proofs.Insertion.{by_bool}
 use Rattle.armcaps_tables.specs.Rows.{id_aa64pfr0_rows, id_aa64pfr1_rows, id_aa64zfr0_rows, id_aa64isar0_rows, id_aa64isar1_rows, id_aa64isar2_rows, id_aa64mmfr0_rows, id_aa64mmfr1_rows, id_aa64mmfr2_rows}
-use Rattle.armcaps_tables.proofs.Places.{all_at}
 use Rattle.armcaps_hwcap.specs.declared.table.Line.{Line}
 use Rattle.armcaps_hwcap.specs.Facts.{bits_rise, field_holds, names_differ, row_holds}
 use Rattle.armcaps_hwcap.specs.Row.{Row}
@@ -43,17 +43,12 @@ row_found index within =
       | inr past ↦ absurd (omega (arith, all_listed, past.0))
     ]
 
--- what the two parts of a test that holds say
-pub both : (a b : Bool) → (a && b) ≡ true → (a ≡ true) × (b ≡ true)
-both true b h = (refl, h)
-both false b h = absurd (false≢true h)
-
 -- a row has at most three fields, and each holds
 pub row_at : (index : ℕ) (row : Row) → slice_get hwcap_rows index ≡ Some row
     → (list_all field_holds row.fields ≡ true) × (length row.fields ≤ 3)
 row_at index row at =
-    let parts = both (list_all field_holds row.fields) (nat_le (length row.fields) 3)
-    (all_at row_holds hwcap_rows index row rows_hold at) in
+    let parts = and_parts (list_all field_holds row.fields) (nat_le (length row.fields) 3)
+    (list_all-item row_holds hwcap_rows index row rows_hold at) in
     (parts.0, leb-true (length row.fields) 3 parts.1)
 
 -- the rows of a word after the first have bits past the first one's
@@ -62,7 +57,7 @@ pub rises_step : (second : Bool) (least : ℕ) (row : Row) (rows : List Row)
     → (least ≤ row.bit) × (bits_rise second (row.bit + 1) rows ≡ true)
 rises_step second least row rows rise is =
     let step : (nat_le least row.bit && bits_rise second (row.bit + 1) rows) ≡ true = rw is at rise in
-    let parts = both (nat_le least row.bit) (bits_rise second (row.bit + 1) rows) step in
+    let parts = and_parts (nat_le least row.bit) (bits_rise second (row.bit + 1) rows) step in
     (leb-true least row.bit parts.0, parts.1)
 
 pub rises_skip : (second : Bool) (least : ℕ) (row : Row) (rows : List Row)

@@ -5,6 +5,8 @@ use Rattle.std.specs.Prelude.{ℤ, int_le}
 use Rattle.std.specs.List.{enumerate_from, list_all, list_any}
 use Rattle.std.specs.Option.{option_map_or}
 use Rattle.std.proofs.lemmas.List.Sums.{sum_by-cons}
+use Rattle.std.proofs.lemmas.Bool.{and_parts}
+use Rattle.std.proofs.Math.Bool.{or-true}
 use Rattle.armcaps_rule.proofs.Insertion.{by_bool}
 use Rattle.armcaps_enc.specs.declared.register.SysReg.{SysReg}
 use Rattle.armcaps_tables.specs.Core.{Core}
@@ -22,7 +24,7 @@ use Rattle.armcaps_hwcap.specs.Hwcaps.{core_has_hwcap, hwcap_over, hwcap_shows, 
 use Rattle.armcaps_hwcap.specs.Row.{Row}
 use Rattle.armcaps_hwcap.specs.Rows.{hwcap_rows}
 use Rattle.armcaps_hwcap.specs.Words.{bits_of, hwcap2_word, hwcap_word, stands_in, IsAdvertised}
-use Rattle.armcaps_hwcap.proofs.Listing.{both, row_at}
+use Rattle.armcaps_hwcap.proofs.Listing.{row_at}
 use Rattle.armcaps_hwcap.proofs.Sums.{part}
 
 -- tests that agree at each element agree on the list
@@ -38,16 +40,13 @@ list_any-more : (holds one other : HwField → Bool)
     → (fields : List HwField) → list_all holds fields ≡ true → list_any one fields ≡ true → list_any other fields ≡ true
 list_any-more holds one other implies [] all passes = passes
 list_any-more holds one other implies (field ∷ fields) all passes =
-    let parts = both (holds field) (list_all holds fields) all in
+    let parts = and_parts (holds field) (list_all holds fields) all in
     by_bool (one field)
     (λ is. ap (λ b. b || list_any other fields) (implies field parts.0 is))
     (λ is.
     let later : list_any one fields ≡ true = ap (λ b. b || list_any one fields) (sym is) ∙ passes in
     ap (λ b. other field || b) (list_any-more holds one other implies fields parts.1 later)
-    ∙ or_true (other field)) where
-      or_true : (b : Bool) → (b || true) ≡ true
-      or_true true = refl
-      or_true false = refl
+    ∙ or-true (other field))
 
 -- two ways to tell the values of fields
 abbrev Values : Type 0
@@ -119,8 +118,8 @@ hwcap_over-each overrides before after core index = at (slice_get hwcap_rows ind
         && int_le field.min (local_field overrides core field.reg field.index row)) listed false ≡ true
     at_field None holds shown = shown
     at_field (Some row) holds shown =
-        let kept = both row.visible (row_keeps field.min row) holds in
-        let seen = both row.visible
+        let kept = and_parts row.visible (row_keeps field.min row) holds in
+        let seen = and_parts row.visible
         (int_le field.min (system_field overrides (before ++ core ∷ after) field.reg field.index row)) shown in
         ap (λ b. b && int_le field.min (local_field overrides core field.reg field.index row)) kept.0
         ∙ local_keeps overrides before after core field.reg field.index row field.min kept.1 seen.1

@@ -4,41 +4,10 @@
 -- named as in the tables of the registers.
 use Rattle.std.specs.Prelude.{ℕ, pos, Bool, true, false, List, [], ◌∷◌, codes}
 use Prim.Native.String.{String}
-use Rattle.std.specs.List.{position_or_len}
-use Rattle.armcaps_enc.specs.declared.register.SysReg.{SysReg}
-use Rattle.armcaps_enc.specs.declared.register.SysReg.TheVariants.{IdAa64Pfr0El1, IdAa64Pfr1El1, IdAa64Zfr0El1, IdAa64Isar0El1, IdAa64Isar1El1, IdAa64Isar2El1, IdAa64Mmfr0El1, IdAa64Mmfr1El1, IdAa64Mmfr2El1}
-use Rattle.armcaps_tables.specs.Facts.{has_name}
-use Rattle.armcaps_tables.specs.Rows.{rows_of}
+use Rattle.armcaps_tables.specs.declared.fields.FieldPlace.{FieldPlace}
+use Rattle.armcaps_tables.specs.FieldNames.{ID_AA64ISAR0_AES, ID_AA64ISAR0_ATOMIC, ID_AA64ISAR0_CRC32, ID_AA64ISAR0_DP, ID_AA64ISAR0_FHM, ID_AA64ISAR0_RDM, ID_AA64ISAR0_RNDR, ID_AA64ISAR0_SHA1, ID_AA64ISAR0_SHA2, ID_AA64ISAR0_SHA3, ID_AA64ISAR0_SM3, ID_AA64ISAR0_SM4, ID_AA64ISAR0_TS, ID_AA64ISAR1_APA, ID_AA64ISAR1_API, ID_AA64ISAR1_BF16, ID_AA64ISAR1_DGH, ID_AA64ISAR1_DPB, ID_AA64ISAR1_FCMA, ID_AA64ISAR1_FRINTTS, ID_AA64ISAR1_GPA, ID_AA64ISAR1_GPI, ID_AA64ISAR1_I8MM, ID_AA64ISAR1_JSCVT, ID_AA64ISAR1_LRCPC, ID_AA64ISAR1_SB, ID_AA64ISAR2_APA3, ID_AA64ISAR2_GPA3, ID_AA64ISAR2_MOPS, ID_AA64ISAR2_RPRES, ID_AA64ISAR2_WFXT, ID_AA64MMFR0_ECV, ID_AA64MMFR1_AFP, ID_AA64MMFR2_AT, ID_AA64PFR0_ADVSIMD, ID_AA64PFR0_DIT, ID_AA64PFR0_FP, ID_AA64PFR0_SVE, ID_AA64PFR1_BT, ID_AA64PFR1_MTE, ID_AA64PFR1_SME, ID_AA64PFR1_SSBS, ID_AA64ZFR0_AES, ID_AA64ZFR0_BF16, ID_AA64ZFR0_BITPERM, ID_AA64ZFR0_F32MM, ID_AA64ZFR0_F64MM, ID_AA64ZFR0_I8MM, ID_AA64ZFR0_SHA3, ID_AA64ZFR0_SM4, ID_AA64ZFR0_SVEVER}
 use Rattle.armcaps_hwcap.specs.declared.row.HwField.{HwField}
 use Rattle.armcaps_hwcap.specs.Row.{Row}
-
--- the registers by short names
-abbrev pfr0 : SysReg
-pfr0 = IdAa64Pfr0El1
-
-abbrev pfr1 : SysReg
-pfr1 = IdAa64Pfr1El1
-
-abbrev zfr0 : SysReg
-zfr0 = IdAa64Zfr0El1
-
-abbrev isar0 : SysReg
-isar0 = IdAa64Isar0El1
-
-abbrev isar1 : SysReg
-isar1 = IdAa64Isar1El1
-
-abbrev isar2 : SysReg
-isar2 = IdAa64Isar2El1
-
-abbrev mmfr0 : SysReg
-mmfr0 = IdAa64Mmfr0El1
-
-abbrev mmfr1 : SysReg
-mmfr1 = IdAa64Mmfr1El1
-
-abbrev mmfr2 : SysReg
-mmfr2 = IdAa64Mmfr2El1
 
 -- the two words
 abbrev hwcap : Bool
@@ -47,11 +16,9 @@ hwcap = false
 abbrev hwcap2 : Bool
 hwcap2 = true
 
--- a field by its name, and the least value that counts: past the end of its register's table where no field has the
--- name
-abbrev field : SysReg → String → ℕ → HwField
-field reg name minimum = record
-    { reg = reg; index = position_or_len (has_name (codes name)) (rows_of reg); min = pos minimum }
+-- a field, and the least value of it that counts
+abbrev field : FieldPlace → ℕ → HwField
+field place minimum = record { reg = place.reg; index = place.index; min = pos minimum }
 
 -- a row of its parts
 abbrev row : Bool → String → ℕ → List HwField → Row
@@ -68,61 +35,61 @@ hwcap_count = 57
 -- the hwcaps in their order
 unfoldable pub hwcap_rows : List Row
 hwcap_rows =
-    row hwcap "fp" 0 (field pfr0 "fp" 0 ∷ [])
-    ∷ row hwcap "asimd" 1 (field pfr0 "advsimd" 0 ∷ [])
-    ∷ row hwcap "aes" 3 (field isar0 "aes" 1 ∷ [])
-    ∷ row hwcap "pmull" 4 (field isar0 "aes" 2 ∷ [])
-    ∷ row hwcap "sha1" 5 (field isar0 "sha1" 1 ∷ [])
-    ∷ row hwcap "sha2" 6 (field isar0 "sha2" 1 ∷ [])
-    ∷ row hwcap "crc32" 7 (field isar0 "crc32" 1 ∷ [])
-    ∷ row hwcap "atomics" 8 (field isar0 "atomic" 2 ∷ [])
-    ∷ row hwcap "fphp" 9 (field pfr0 "fp" 1 ∷ [])
-    ∷ row hwcap "asimdhp" 10 (field pfr0 "advsimd" 1 ∷ [])
+    row hwcap "fp" 0 (field ID_AA64PFR0_FP 0 ∷ [])
+    ∷ row hwcap "asimd" 1 (field ID_AA64PFR0_ADVSIMD 0 ∷ [])
+    ∷ row hwcap "aes" 3 (field ID_AA64ISAR0_AES 1 ∷ [])
+    ∷ row hwcap "pmull" 4 (field ID_AA64ISAR0_AES 2 ∷ [])
+    ∷ row hwcap "sha1" 5 (field ID_AA64ISAR0_SHA1 1 ∷ [])
+    ∷ row hwcap "sha2" 6 (field ID_AA64ISAR0_SHA2 1 ∷ [])
+    ∷ row hwcap "crc32" 7 (field ID_AA64ISAR0_CRC32 1 ∷ [])
+    ∷ row hwcap "atomics" 8 (field ID_AA64ISAR0_ATOMIC 2 ∷ [])
+    ∷ row hwcap "fphp" 9 (field ID_AA64PFR0_FP 1 ∷ [])
+    ∷ row hwcap "asimdhp" 10 (field ID_AA64PFR0_ADVSIMD 1 ∷ [])
     ∷ always hwcap "cpuid" 11
-    ∷ row hwcap "asimdrdm" 12 (field isar0 "rdm" 1 ∷ [])
-    ∷ row hwcap "jscvt" 13 (field isar1 "jscvt" 1 ∷ [])
-    ∷ row hwcap "fcma" 14 (field isar1 "fcma" 1 ∷ [])
-    ∷ row hwcap "lrcpc" 15 (field isar1 "lrcpc" 1 ∷ [])
-    ∷ row hwcap "dcpop" 16 (field isar1 "dpb" 1 ∷ [])
-    ∷ row hwcap "sha3" 17 (field isar0 "sha3" 1 ∷ [])
-    ∷ row hwcap "sm3" 18 (field isar0 "sm3" 1 ∷ [])
-    ∷ row hwcap "sm4" 19 (field isar0 "sm4" 1 ∷ [])
-    ∷ row hwcap "asimddp" 20 (field isar0 "dp" 1 ∷ [])
-    ∷ row hwcap "sha512" 21 (field isar0 "sha2" 2 ∷ [])
-    ∷ row hwcap "sve" 22 (field pfr0 "sve" 1 ∷ [])
-    ∷ row hwcap "asimdfhm" 23 (field isar0 "fhm" 1 ∷ [])
-    ∷ row hwcap "dit" 24 (field pfr0 "dit" 1 ∷ [])
-    ∷ row hwcap "uscat" 25 (field mmfr2 "at" 1 ∷ [])
-    ∷ row hwcap "ilrcpc" 26 (field isar1 "lrcpc" 2 ∷ [])
-    ∷ row hwcap "flagm" 27 (field isar0 "ts" 1 ∷ [])
-    ∷ row hwcap "ssbs" 28 (field pfr1 "ssbs" 2 ∷ [])
-    ∷ row hwcap "sb" 29 (field isar1 "sb" 1 ∷ [])
-    ∷ row hwcap "paca" 30 (field isar1 "apa" 1 ∷ field isar2 "apa3" 1 ∷ field isar1 "api" 1 ∷ [])
-    ∷ row hwcap "pacg" 31 (field isar1 "gpa" 1 ∷ field isar2 "gpa3" 1 ∷ field isar1 "gpi" 1 ∷ [])
-    ∷ row hwcap2 "dcpodp" 0 (field isar1 "dpb" 2 ∷ [])
-    ∷ row hwcap2 "sve2" 1 (field zfr0 "svever" 1 ∷ [])
-    ∷ row hwcap2 "sveaes" 2 (field zfr0 "aes" 1 ∷ [])
-    ∷ row hwcap2 "svepmull" 3 (field zfr0 "aes" 2 ∷ [])
-    ∷ row hwcap2 "svebitperm" 4 (field zfr0 "bitperm" 1 ∷ [])
-    ∷ row hwcap2 "svesha3" 5 (field zfr0 "sha3" 1 ∷ [])
-    ∷ row hwcap2 "svesm4" 6 (field zfr0 "sm4" 1 ∷ [])
-    ∷ row hwcap2 "flagm2" 7 (field isar0 "ts" 2 ∷ [])
-    ∷ row hwcap2 "frint" 8 (field isar1 "frintts" 1 ∷ [])
-    ∷ row hwcap2 "svei8mm" 9 (field zfr0 "i8mm" 1 ∷ [])
-    ∷ row hwcap2 "svef32mm" 10 (field zfr0 "f32mm" 1 ∷ [])
-    ∷ row hwcap2 "svef64mm" 11 (field zfr0 "f64mm" 1 ∷ [])
-    ∷ row hwcap2 "svebf16" 12 (field zfr0 "bf16" 1 ∷ [])
-    ∷ row hwcap2 "i8mm" 13 (field isar1 "i8mm" 1 ∷ [])
-    ∷ row hwcap2 "bf16" 14 (field isar1 "bf16" 1 ∷ [])
-    ∷ row hwcap2 "dgh" 15 (field isar1 "dgh" 1 ∷ [])
-    ∷ row hwcap2 "rng" 16 (field isar0 "rndr" 1 ∷ [])
-    ∷ row hwcap2 "bti" 17 (field pfr1 "bt" 1 ∷ [])
-    ∷ row hwcap2 "mte" 18 (field pfr1 "mte" 2 ∷ [])
-    ∷ row hwcap2 "ecv" 19 (field mmfr0 "ecv" 1 ∷ [])
-    ∷ row hwcap2 "afp" 20 (field mmfr1 "afp" 1 ∷ [])
-    ∷ row hwcap2 "rpres" 21 (field isar2 "rpres" 1 ∷ [])
-    ∷ row hwcap2 "mte3" 22 (field pfr1 "mte" 3 ∷ [])
-    ∷ row hwcap2 "sme" 23 (field pfr1 "sme" 1 ∷ [])
-    ∷ row hwcap2 "wfxt" 31 (field isar2 "wfxt" 2 ∷ [])
-    ∷ row hwcap2 "mops" 43 (field isar2 "mops" 1 ∷ [])
+    ∷ row hwcap "asimdrdm" 12 (field ID_AA64ISAR0_RDM 1 ∷ [])
+    ∷ row hwcap "jscvt" 13 (field ID_AA64ISAR1_JSCVT 1 ∷ [])
+    ∷ row hwcap "fcma" 14 (field ID_AA64ISAR1_FCMA 1 ∷ [])
+    ∷ row hwcap "lrcpc" 15 (field ID_AA64ISAR1_LRCPC 1 ∷ [])
+    ∷ row hwcap "dcpop" 16 (field ID_AA64ISAR1_DPB 1 ∷ [])
+    ∷ row hwcap "sha3" 17 (field ID_AA64ISAR0_SHA3 1 ∷ [])
+    ∷ row hwcap "sm3" 18 (field ID_AA64ISAR0_SM3 1 ∷ [])
+    ∷ row hwcap "sm4" 19 (field ID_AA64ISAR0_SM4 1 ∷ [])
+    ∷ row hwcap "asimddp" 20 (field ID_AA64ISAR0_DP 1 ∷ [])
+    ∷ row hwcap "sha512" 21 (field ID_AA64ISAR0_SHA2 2 ∷ [])
+    ∷ row hwcap "sve" 22 (field ID_AA64PFR0_SVE 1 ∷ [])
+    ∷ row hwcap "asimdfhm" 23 (field ID_AA64ISAR0_FHM 1 ∷ [])
+    ∷ row hwcap "dit" 24 (field ID_AA64PFR0_DIT 1 ∷ [])
+    ∷ row hwcap "uscat" 25 (field ID_AA64MMFR2_AT 1 ∷ [])
+    ∷ row hwcap "ilrcpc" 26 (field ID_AA64ISAR1_LRCPC 2 ∷ [])
+    ∷ row hwcap "flagm" 27 (field ID_AA64ISAR0_TS 1 ∷ [])
+    ∷ row hwcap "ssbs" 28 (field ID_AA64PFR1_SSBS 2 ∷ [])
+    ∷ row hwcap "sb" 29 (field ID_AA64ISAR1_SB 1 ∷ [])
+    ∷ row hwcap "paca" 30 (field ID_AA64ISAR1_APA 1 ∷ field ID_AA64ISAR2_APA3 1 ∷ field ID_AA64ISAR1_API 1 ∷ [])
+    ∷ row hwcap "pacg" 31 (field ID_AA64ISAR1_GPA 1 ∷ field ID_AA64ISAR2_GPA3 1 ∷ field ID_AA64ISAR1_GPI 1 ∷ [])
+    ∷ row hwcap2 "dcpodp" 0 (field ID_AA64ISAR1_DPB 2 ∷ [])
+    ∷ row hwcap2 "sve2" 1 (field ID_AA64ZFR0_SVEVER 1 ∷ [])
+    ∷ row hwcap2 "sveaes" 2 (field ID_AA64ZFR0_AES 1 ∷ [])
+    ∷ row hwcap2 "svepmull" 3 (field ID_AA64ZFR0_AES 2 ∷ [])
+    ∷ row hwcap2 "svebitperm" 4 (field ID_AA64ZFR0_BITPERM 1 ∷ [])
+    ∷ row hwcap2 "svesha3" 5 (field ID_AA64ZFR0_SHA3 1 ∷ [])
+    ∷ row hwcap2 "svesm4" 6 (field ID_AA64ZFR0_SM4 1 ∷ [])
+    ∷ row hwcap2 "flagm2" 7 (field ID_AA64ISAR0_TS 2 ∷ [])
+    ∷ row hwcap2 "frint" 8 (field ID_AA64ISAR1_FRINTTS 1 ∷ [])
+    ∷ row hwcap2 "svei8mm" 9 (field ID_AA64ZFR0_I8MM 1 ∷ [])
+    ∷ row hwcap2 "svef32mm" 10 (field ID_AA64ZFR0_F32MM 1 ∷ [])
+    ∷ row hwcap2 "svef64mm" 11 (field ID_AA64ZFR0_F64MM 1 ∷ [])
+    ∷ row hwcap2 "svebf16" 12 (field ID_AA64ZFR0_BF16 1 ∷ [])
+    ∷ row hwcap2 "i8mm" 13 (field ID_AA64ISAR1_I8MM 1 ∷ [])
+    ∷ row hwcap2 "bf16" 14 (field ID_AA64ISAR1_BF16 1 ∷ [])
+    ∷ row hwcap2 "dgh" 15 (field ID_AA64ISAR1_DGH 1 ∷ [])
+    ∷ row hwcap2 "rng" 16 (field ID_AA64ISAR0_RNDR 1 ∷ [])
+    ∷ row hwcap2 "bti" 17 (field ID_AA64PFR1_BT 1 ∷ [])
+    ∷ row hwcap2 "mte" 18 (field ID_AA64PFR1_MTE 2 ∷ [])
+    ∷ row hwcap2 "ecv" 19 (field ID_AA64MMFR0_ECV 1 ∷ [])
+    ∷ row hwcap2 "afp" 20 (field ID_AA64MMFR1_AFP 1 ∷ [])
+    ∷ row hwcap2 "rpres" 21 (field ID_AA64ISAR2_RPRES 1 ∷ [])
+    ∷ row hwcap2 "mte3" 22 (field ID_AA64PFR1_MTE 3 ∷ [])
+    ∷ row hwcap2 "sme" 23 (field ID_AA64PFR1_SME 1 ∷ [])
+    ∷ row hwcap2 "wfxt" 31 (field ID_AA64ISAR2_WFXT 2 ∷ [])
+    ∷ row hwcap2 "mops" 43 (field ID_AA64ISAR2_MOPS 1 ∷ [])
     ∷ []

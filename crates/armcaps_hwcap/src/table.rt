@@ -6,7 +6,7 @@ ghost use Rattle.armcaps_hwcap.specs.RowOf.{row_of, row_of_line};
 ghost use Rattle.armcaps_hwcap.specs.Rows.{hwcap_count, hwcap_rows};
 
 use crate::row::{HwField, HwRow};
-use armcaps_enc::SysReg;
+use armcaps_tables::fields;
 use arrayvec::ArrayVec;
 
 /// How many hwcaps there are. Their places in the table are those below it.
@@ -22,8 +22,7 @@ pub(crate) struct Line {
     pub(crate) fields: &'static [HwField],
 }
 
-// A line of its words: the word and the bit, and then `always` or the fields, each by its register, its place there and
-// its least value.
+// A line of its words: the word and the bit, and then `always` or the fields, each by its name and its least value.
 macro_rules! line {
     ($name:literal, hwcap $bit:literal, $($more:tt)*) => {
         line!([$name false $bit] $($more)*)
@@ -40,15 +39,15 @@ macro_rules! line {
             fields: &[],
         }
     };
-    ([$name:literal $second:literal $bit:literal] [$($reg:ident $index:literal $min:literal),+]) => {
+    ([$name:literal $second:literal $bit:literal] [$($field:ident $min:literal),+]) => {
         Line {
             name: $name,
             second: $second,
             bit: $bit,
             always: false,
             fields: &[$(HwField {
-                reg: SysReg::$reg,
-                index: $index,
+                reg: fields::$field.reg,
+                index: fields::$field.index,
                 min: $min,
             }),+],
         }
@@ -103,69 +102,69 @@ pub(crate) fn line_at(index: usize) -> Line
     line_of_table(index).unwrap()
 }
 
-// The line that the table has. Behind it stand the names of the fields.
+// The line that the table has.
 #[tactic(auto, unfolding(crate::specs::Rows::hwcap_rows, armcaps_tables::specs::Rows::id_aa64pfr0_rows, armcaps_tables::specs::Rows::id_aa64pfr1_rows, armcaps_tables::specs::Rows::id_aa64zfr0_rows, armcaps_tables::specs::Rows::id_aa64isar0_rows, armcaps_tables::specs::Rows::id_aa64isar1_rows, armcaps_tables::specs::Rows::id_aa64isar2_rows, armcaps_tables::specs::Rows::id_aa64mmfr0_rows, armcaps_tables::specs::Rows::id_aa64mmfr1_rows, armcaps_tables::specs::Rows::id_aa64mmfr2_rows))]
 fn line_of_table(index: usize) -> Option<Line>
     ensures { option_map row_of_line result ≡ slice_get hwcap_rows index }
 {
     line_at! { index
-        0 => "fp", hwcap 0, [IdAa64Pfr0El1 4 0]; // pfr0.fp
-        1 => "asimd", hwcap 1, [IdAa64Pfr0El1 5 0]; // pfr0.advsimd
-        2 => "aes", hwcap 3, [IdAa64Isar0El1 0 1]; // isar0.aes
-        3 => "pmull", hwcap 4, [IdAa64Isar0El1 0 2]; // isar0.aes
-        4 => "sha1", hwcap 5, [IdAa64Isar0El1 1 1]; // isar0.sha1
-        5 => "sha2", hwcap 6, [IdAa64Isar0El1 2 1]; // isar0.sha2
-        6 => "crc32", hwcap 7, [IdAa64Isar0El1 3 1]; // isar0.crc32
-        7 => "atomics", hwcap 8, [IdAa64Isar0El1 4 2]; // isar0.atomic
-        8 => "fphp", hwcap 9, [IdAa64Pfr0El1 4 1]; // pfr0.fp
-        9 => "asimdhp", hwcap 10, [IdAa64Pfr0El1 5 1]; // pfr0.advsimd
+        0 => "fp", hwcap 0, [ID_AA64PFR0_FP 0];
+        1 => "asimd", hwcap 1, [ID_AA64PFR0_ADVSIMD 0];
+        2 => "aes", hwcap 3, [ID_AA64ISAR0_AES 1];
+        3 => "pmull", hwcap 4, [ID_AA64ISAR0_AES 2];
+        4 => "sha1", hwcap 5, [ID_AA64ISAR0_SHA1 1];
+        5 => "sha2", hwcap 6, [ID_AA64ISAR0_SHA2 1];
+        6 => "crc32", hwcap 7, [ID_AA64ISAR0_CRC32 1];
+        7 => "atomics", hwcap 8, [ID_AA64ISAR0_ATOMIC 2];
+        8 => "fphp", hwcap 9, [ID_AA64PFR0_FP 1];
+        9 => "asimdhp", hwcap 10, [ID_AA64PFR0_ADVSIMD 1];
         10 => "cpuid", hwcap 11, always;
-        11 => "asimdrdm", hwcap 12, [IdAa64Isar0El1 5 1]; // isar0.rdm
-        12 => "jscvt", hwcap 13, [IdAa64Isar1El1 3 1]; // isar1.jscvt
-        13 => "fcma", hwcap 14, [IdAa64Isar1El1 4 1]; // isar1.fcma
-        14 => "lrcpc", hwcap 15, [IdAa64Isar1El1 5 1]; // isar1.lrcpc
-        15 => "dcpop", hwcap 16, [IdAa64Isar1El1 0 1]; // isar1.dpb
-        16 => "sha3", hwcap 17, [IdAa64Isar0El1 6 1]; // isar0.sha3
-        17 => "sm3", hwcap 18, [IdAa64Isar0El1 7 1]; // isar0.sm3
-        18 => "sm4", hwcap 19, [IdAa64Isar0El1 8 1]; // isar0.sm4
-        19 => "asimddp", hwcap 20, [IdAa64Isar0El1 9 1]; // isar0.dp
-        20 => "sha512", hwcap 21, [IdAa64Isar0El1 2 2]; // isar0.sha2
-        21 => "sve", hwcap 22, [IdAa64Pfr0El1 8 1]; // pfr0.sve
-        22 => "asimdfhm", hwcap 23, [IdAa64Isar0El1 10 1]; // isar0.fhm
-        23 => "dit", hwcap 24, [IdAa64Pfr0El1 12 1]; // pfr0.dit
-        24 => "uscat", hwcap 25, [IdAa64Mmfr2El1 4 1]; // mmfr2.at
-        25 => "ilrcpc", hwcap 26, [IdAa64Isar1El1 5 2]; // isar1.lrcpc
-        26 => "flagm", hwcap 27, [IdAa64Isar0El1 11 1]; // isar0.ts
-        27 => "ssbs", hwcap 28, [IdAa64Pfr1El1 1 2]; // pfr1.ssbs
-        28 => "sb", hwcap 29, [IdAa64Isar1El1 9 1]; // isar1.sb
-        29 => "paca", hwcap 30, [IdAa64Isar1El1 1 1, IdAa64Isar2El1 3 1, IdAa64Isar1El1 2 1]; // apa, apa3, api
-        30 => "pacg", hwcap 31, [IdAa64Isar1El1 6 1, IdAa64Isar2El1 2 1, IdAa64Isar1El1 7 1]; // gpa, gpa3, gpi
-        31 => "dcpodp", hwcap2 0, [IdAa64Isar1El1 0 2]; // isar1.dpb
-        32 => "sve2", hwcap2 1, [IdAa64Zfr0El1 0 1]; // zfr0.svever
-        33 => "sveaes", hwcap2 2, [IdAa64Zfr0El1 1 1]; // zfr0.aes
-        34 => "svepmull", hwcap2 3, [IdAa64Zfr0El1 1 2]; // zfr0.aes
-        35 => "svebitperm", hwcap2 4, [IdAa64Zfr0El1 2 1]; // zfr0.bitperm
-        36 => "svesha3", hwcap2 5, [IdAa64Zfr0El1 4 1]; // zfr0.sha3
-        37 => "svesm4", hwcap2 6, [IdAa64Zfr0El1 5 1]; // zfr0.sm4
-        38 => "flagm2", hwcap2 7, [IdAa64Isar0El1 11 2]; // isar0.ts
-        39 => "frint", hwcap2 8, [IdAa64Isar1El1 8 1]; // isar1.frintts
-        40 => "svei8mm", hwcap2 9, [IdAa64Zfr0El1 6 1]; // zfr0.i8mm
-        41 => "svef32mm", hwcap2 10, [IdAa64Zfr0El1 7 1]; // zfr0.f32mm
-        42 => "svef64mm", hwcap2 11, [IdAa64Zfr0El1 8 1]; // zfr0.f64mm
-        43 => "svebf16", hwcap2 12, [IdAa64Zfr0El1 3 1]; // zfr0.bf16
-        44 => "i8mm", hwcap2 13, [IdAa64Isar1El1 13 1]; // isar1.i8mm
-        45 => "bf16", hwcap2 14, [IdAa64Isar1El1 11 1]; // isar1.bf16
-        46 => "dgh", hwcap2 15, [IdAa64Isar1El1 12 1]; // isar1.dgh
-        47 => "rng", hwcap2 16, [IdAa64Isar0El1 13 1]; // isar0.rndr
-        48 => "bti", hwcap2 17, [IdAa64Pfr1El1 0 1]; // pfr1.bt
-        49 => "mte", hwcap2 18, [IdAa64Pfr1El1 2 2]; // pfr1.mte
-        50 => "ecv", hwcap2 19, [IdAa64Mmfr0El1 9 1]; // mmfr0.ecv
-        51 => "afp", hwcap2 20, [IdAa64Mmfr1El1 9 1]; // mmfr1.afp
-        52 => "rpres", hwcap2 21, [IdAa64Isar2El1 1 1]; // isar2.rpres
-        53 => "mte3", hwcap2 22, [IdAa64Pfr1El1 2 3]; // pfr1.mte
-        54 => "sme", hwcap2 23, [IdAa64Pfr1El1 5 1]; // pfr1.sme
-        55 => "wfxt", hwcap2 31, [IdAa64Isar2El1 0 2]; // isar2.wfxt
-        56 => "mops", hwcap2 43, [IdAa64Isar2El1 4 1]; // isar2.mops
+        11 => "asimdrdm", hwcap 12, [ID_AA64ISAR0_RDM 1];
+        12 => "jscvt", hwcap 13, [ID_AA64ISAR1_JSCVT 1];
+        13 => "fcma", hwcap 14, [ID_AA64ISAR1_FCMA 1];
+        14 => "lrcpc", hwcap 15, [ID_AA64ISAR1_LRCPC 1];
+        15 => "dcpop", hwcap 16, [ID_AA64ISAR1_DPB 1];
+        16 => "sha3", hwcap 17, [ID_AA64ISAR0_SHA3 1];
+        17 => "sm3", hwcap 18, [ID_AA64ISAR0_SM3 1];
+        18 => "sm4", hwcap 19, [ID_AA64ISAR0_SM4 1];
+        19 => "asimddp", hwcap 20, [ID_AA64ISAR0_DP 1];
+        20 => "sha512", hwcap 21, [ID_AA64ISAR0_SHA2 2];
+        21 => "sve", hwcap 22, [ID_AA64PFR0_SVE 1];
+        22 => "asimdfhm", hwcap 23, [ID_AA64ISAR0_FHM 1];
+        23 => "dit", hwcap 24, [ID_AA64PFR0_DIT 1];
+        24 => "uscat", hwcap 25, [ID_AA64MMFR2_AT 1];
+        25 => "ilrcpc", hwcap 26, [ID_AA64ISAR1_LRCPC 2];
+        26 => "flagm", hwcap 27, [ID_AA64ISAR0_TS 1];
+        27 => "ssbs", hwcap 28, [ID_AA64PFR1_SSBS 2];
+        28 => "sb", hwcap 29, [ID_AA64ISAR1_SB 1];
+        29 => "paca", hwcap 30, [ID_AA64ISAR1_APA 1, ID_AA64ISAR2_APA3 1, ID_AA64ISAR1_API 1];
+        30 => "pacg", hwcap 31, [ID_AA64ISAR1_GPA 1, ID_AA64ISAR2_GPA3 1, ID_AA64ISAR1_GPI 1];
+        31 => "dcpodp", hwcap2 0, [ID_AA64ISAR1_DPB 2];
+        32 => "sve2", hwcap2 1, [ID_AA64ZFR0_SVEVER 1];
+        33 => "sveaes", hwcap2 2, [ID_AA64ZFR0_AES 1];
+        34 => "svepmull", hwcap2 3, [ID_AA64ZFR0_AES 2];
+        35 => "svebitperm", hwcap2 4, [ID_AA64ZFR0_BITPERM 1];
+        36 => "svesha3", hwcap2 5, [ID_AA64ZFR0_SHA3 1];
+        37 => "svesm4", hwcap2 6, [ID_AA64ZFR0_SM4 1];
+        38 => "flagm2", hwcap2 7, [ID_AA64ISAR0_TS 2];
+        39 => "frint", hwcap2 8, [ID_AA64ISAR1_FRINTTS 1];
+        40 => "svei8mm", hwcap2 9, [ID_AA64ZFR0_I8MM 1];
+        41 => "svef32mm", hwcap2 10, [ID_AA64ZFR0_F32MM 1];
+        42 => "svef64mm", hwcap2 11, [ID_AA64ZFR0_F64MM 1];
+        43 => "svebf16", hwcap2 12, [ID_AA64ZFR0_BF16 1];
+        44 => "i8mm", hwcap2 13, [ID_AA64ISAR1_I8MM 1];
+        45 => "bf16", hwcap2 14, [ID_AA64ISAR1_BF16 1];
+        46 => "dgh", hwcap2 15, [ID_AA64ISAR1_DGH 1];
+        47 => "rng", hwcap2 16, [ID_AA64ISAR0_RNDR 1];
+        48 => "bti", hwcap2 17, [ID_AA64PFR1_BT 1];
+        49 => "mte", hwcap2 18, [ID_AA64PFR1_MTE 2];
+        50 => "ecv", hwcap2 19, [ID_AA64MMFR0_ECV 1];
+        51 => "afp", hwcap2 20, [ID_AA64MMFR1_AFP 1];
+        52 => "rpres", hwcap2 21, [ID_AA64ISAR2_RPRES 1];
+        53 => "mte3", hwcap2 22, [ID_AA64PFR1_MTE 3];
+        54 => "sme", hwcap2 23, [ID_AA64PFR1_SME 1];
+        55 => "wfxt", hwcap2 31, [ID_AA64ISAR2_WFXT 2];
+        56 => "mops", hwcap2 43, [ID_AA64ISAR2_MOPS 1];
     }
 }
 

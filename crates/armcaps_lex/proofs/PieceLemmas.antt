@@ -5,11 +5,8 @@ use Rattle.std.proofs.lemmas.Grind.{common_steps}
 use Rattle.std.proofs.lemmas.Bool.Decides.{nat_tests}
 use Rattle.std.proofs.lemmas.List.Splits.{slice_split_first, slice_split_none, slice_split-cons_yes}
 use Rattle.std.proofs.lemmas.List.Sums.{fails_before_first, passes_at_first, prefix_len-le-length}
+use Rattle.armcaps_logic.proofs.Searches.{position_some}
 use Rattle.armcaps_lex.specs.Pieces.{separates, pieces}
-
--- what a known place says
-pub position_some : (p : ℕ → Bool) (xs : List ℕ) (place : ℕ) → position p xs ≡ Some place → (position_or_len p xs < length xs) × (place ≡ position_or_len p xs)
-position_some p xs place h = grind (arith, nat_tests)
 
 -- a byte that is no separator
 abbrev within_piece : (ℕ → Bool) → ℕ → Bool

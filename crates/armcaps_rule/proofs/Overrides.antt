@@ -42,8 +42,8 @@ more_insert rule safe override before after x h ne =
     ∙ ap (λ v. merged rule safe v x) (sym (forced_more rule safe override (before ++ after) ne))
 
 -- a value that is added to a forced value, in whatever place, is one merge
-pub forced_insert : (rule : Rule) (safe : ℤ) (over : Option ℤ) (before after : List ℤ) (x : ℤ) → 0 < length (before ++ after)
-    → forced_of rule safe over (before ++ x ∷ after) ≡ merged rule safe (forced_of rule safe over (before ++ after)) x
+pub forced_insert : (rule : Rule) (safe : ℤ) (override : Option ℤ) (before after : List ℤ) (x : ℤ) → 0 < length (before ++ after)
+    → forced_of rule safe override (before ++ x ∷ after) ≡ merged rule safe (forced_of rule safe override (before ++ after)) x
 forced_insert rule safe None before after x h =
     rw (forced_none rule safe (before ++ x ∷ after), forced_none rule safe (before ++ after)) (fold_insert rule safe before after x h)
 forced_insert Exact safe (Some override) before after x h = by_bool (int_eq override safe)
@@ -76,8 +76,8 @@ again_more rule safe override x ne =
     rw is (merged_again rule safe override x)
 
 -- the same of one value under an override
-again_alone : (rule : Rule) (safe : ℤ) (over : Option ℤ) (x : ℤ)
-    → merged rule safe (forced_of rule safe over (x ∷ [])) x ≡ forced_of rule safe over (x ∷ [])
+again_alone : (rule : Rule) (safe : ℤ) (override : Option ℤ) (x : ℤ)
+    → merged rule safe (forced_of rule safe override (x ∷ [])) x ≡ forced_of rule safe override (x ∷ [])
 again_alone rule safe None x =
     rw (forced_none rule safe (x ∷ []), fold_one rule safe x) (merged_same rule safe x)
 again_alone Exact safe (Some override) x = by_bool (int_eq override safe)
@@ -92,15 +92,15 @@ again_alone Higher safe (Some override) x = again_more Higher safe override x (�
 again_alone HigherOrZero safe (Some override) x = again_more HigherOrZero safe override x (λ e. cc)
 
 -- a value that is among those of a forced value already, merged again, changes nothing
-pub forced_again : (rule : Rule) (safe : ℤ) (over : Option ℤ) (before after : List ℤ) (x : ℤ)
-    → merged rule safe (forced_of rule safe over (before ++ x ∷ after)) x ≡ forced_of rule safe over (before ++ x ∷ after)
-forced_again rule safe over [] [] x = again_alone rule safe over x
-forced_again rule safe over [] (y ∷ after) x =
-    let is = forced_insert rule safe over [] (y ∷ after) x (omega arith) in
-    rw is (merged_again rule safe (forced_of rule safe over (y ∷ after)) x)
-forced_again rule safe over (y ∷ before) after x =
-    let is = forced_insert rule safe over (y ∷ before) after x (omega arith) in
-    rw is (merged_again rule safe (forced_of rule safe over (y ∷ before ++ after)) x)
+pub forced_again : (rule : Rule) (safe : ℤ) (override : Option ℤ) (before after : List ℤ) (x : ℤ)
+    → merged rule safe (forced_of rule safe override (before ++ x ∷ after)) x ≡ forced_of rule safe override (before ++ x ∷ after)
+forced_again rule safe override [] [] x = again_alone rule safe override x
+forced_again rule safe override [] (y ∷ after) x =
+    let is = forced_insert rule safe override [] (y ∷ after) x (omega arith) in
+    rw is (merged_again rule safe (forced_of rule safe override (y ∷ after)) x)
+forced_again rule safe override (y ∷ before) after x =
+    let is = forced_insert rule safe override (y ∷ before) after x (omega arith) in
+    rw is (merged_again rule safe (forced_of rule safe override (y ∷ before ++ after)) x)
 
 ignored_more : (rule : Rule) (safe : ℤ) (before after : List ℤ) (x o : ℤ) → (rule ≡ Exact → ⊥) → (merged rule safe o x ≡ o → ⊥)
     → forced_of rule safe (Some o) (before ++ x ∷ after) ≡ fold_of rule safe (before ++ x ∷ after)

@@ -7,18 +7,18 @@ use crate::rule::Rule;
 
 /// Merges the value that a field has so far with one more core's value (Linux, `arm64_ftr_safe_value`).
 /// Equal values stay. `safe` is the field's safe value, which only [`Rule::Exact`] uses.
-pub fn merge(rule: Rule, safe: i64, cur: i64, new: i64) -> i64
-    ensures { result ≡ merged rule safe cur new }
+pub fn merge(rule: Rule, safe: i64, current: i64, other: i64) -> i64
+    ensures { result ≡ merged rule safe current other }
 {
     match rule {
-        Rule::Exact => { if cur == new { cur } else { safe } }
-        Rule::Lower => cur.min(new),
-        Rule::Higher => cur.max(new),
+        Rule::Exact => { if current == other { current } else { safe } }
+        Rule::Lower => current.min(other),
+        Rule::Higher => current.max(other),
         Rule::HigherOrZero => {
-            if cur == 0 || new == 0 {
+            if current == 0 || other == 0 {
                 0
             } else {
-                cur.max(new)
+                current.max(other)
             }
         }
     }
@@ -38,12 +38,12 @@ pub fn fold(rule: Rule, safe: i64, values: &[i64]) -> i64
 
 /// The one value for all of `values` under an override from the command line. An Exact field takes only its safe
 /// value from there, and with any other rule the override counts as one more value.
-pub fn forced(rule: Rule, safe: i64, over: Option<i64>, values: &[i64]) -> i64
+pub fn forced(rule: Rule, safe: i64, override_: Option<i64>, values: &[i64]) -> i64
     requires { 0 < length values.now }
-    ensures { result ≡ forced_of rule safe over values.now }
+    ensures { result ≡ forced_of rule safe override_ values.now }
 {
     let folded = fold(rule, safe, values);
-    match over {
+    match override_ {
         None => folded,
         Some(value) => match rule {
             Rule::Exact => { if value == safe { safe } else { folded } }

@@ -19,7 +19,7 @@ pub fn merge_joins(rule: Rule, safe: i64, first: i64, second: i64, third: i64)
 pub fn insert_merges(
     rule: Rule,
     safe: i64,
-    over: Option<i64>,
+    override_: Option<i64>,
     before: &[i64],
     value: i64,
     after: &[i64],
@@ -27,21 +27,21 @@ pub fn insert_merges(
     requires { 0 < length before.now + length after.now }
     ensures fold { fold_of rule safe (before.now ++ value ∷ after.now)
         ≡ merged rule safe (fold_of rule safe (before.now ++ after.now)) value }
-    ensures forced { forced_of rule safe over (before.now ++ value ∷ after.now)
-        ≡ merged rule safe (forced_of rule safe over (before.now ++ after.now)) value }
+    ensures forced { forced_of rule safe override_ (before.now ++ value ∷ after.now)
+        ≡ merged rule safe (forced_of rule safe override_ (before.now ++ after.now)) value }
 {}
 
 /// A value that is among others already, in whatever place, changes nothing where it is merged once more.
 pub fn merging_again_changes_nothing(
     rule: Rule,
     safe: i64,
-    over: Option<i64>,
+    override_: Option<i64>,
     before: &[i64],
     value: i64,
     after: &[i64],
 )
-    ensures { merged rule safe (forced_of rule safe over (before.now ++ value ∷ after.now)) value
-        ≡ forced_of rule safe over (before.now ++ value ∷ after.now) }
+    ensures { merged rule safe (forced_of rule safe override_ (before.now ++ value ∷ after.now)) value
+        ≡ forced_of rule safe override_ (before.now ++ value ∷ after.now) }
 {}
 
 /// An override that merging with some core's value gives back is taken: it counts as one more value. Any other leaves no
@@ -49,15 +49,15 @@ pub fn merging_again_changes_nothing(
 pub fn override_is_taken_or_ignored(
     rule: Rule,
     safe: i64,
-    over: i64,
+    override_: i64,
     before: &[i64],
     value: i64,
     after: &[i64],
 )
-    ensures taken { merged rule safe over value ≡ over
-        → forced_of rule safe (Some over) (before.now ++ value ∷ after.now)
-        ≡ fold_of rule safe (over ∷ (before.now ++ value ∷ after.now)) }
-    ensures ignored { merged rule safe over value ≢ over
-        → forced_of rule safe (Some over) (before.now ++ value ∷ after.now)
+    ensures taken { merged rule safe override_ value ≡ override_
+        → forced_of rule safe (Some override_) (before.now ++ value ∷ after.now)
+        ≡ fold_of rule safe (override_ ∷ (before.now ++ value ∷ after.now)) }
+    ensures ignored { merged rule safe override_ value ≢ override_
+        → forced_of rule safe (Some override_) (before.now ++ value ∷ after.now)
         ≡ fold_of rule safe (before.now ++ value ∷ after.now) }
 {}

@@ -45,36 +45,36 @@ merged_keeps Higher safe minimum m x keeps reaches = absurd (false≢true keeps)
 merged_keeps HigherOrZero safe minimum m x keeps reaches = absurd (false≢true keeps)
 
 -- so the values of all are at least the minimum only where each alone is
-forced_before : (rule : Rule) (safe minimum : ℤ) (over : Option ℤ) (before after : List ℤ) (x : ℤ)
+forced_before : (rule : Rule) (safe minimum : ℤ) (override : Option ℤ) (before after : List ℤ) (x : ℤ)
     → rule_keeps rule (int_lt safe minimum) ≡ true
-    → int_le minimum (forced_of rule safe over (before ++ x ∷ after)) ≡ true
-    → int_le minimum (forced_of rule safe over (x ∷ after)) ≡ true
-forced_before rule safe minimum over [] after x keeps reaches = reaches
-forced_before rule safe minimum over (b ∷ before) after x keeps reaches =
+    → int_le minimum (forced_of rule safe override (before ++ x ∷ after)) ≡ true
+    → int_le minimum (forced_of rule safe override (x ∷ after)) ≡ true
+forced_before rule safe minimum override [] after x keeps reaches = reaches
+forced_before rule safe minimum override (b ∷ before) after x keeps reaches =
     let some : 0 < length (before ++ x ∷ after) = omega (arith, length-append before (x ∷ after)) in
-    let one = forced_insert rule safe over [] (before ++ x ∷ after) b some in
-    forced_before rule safe minimum over before after x keeps
-    (merged_keeps rule safe minimum (forced_of rule safe over (before ++ x ∷ after)) b keeps
+    let one = forced_insert rule safe override [] (before ++ x ∷ after) b some in
+    forced_before rule safe minimum override before after x keeps
+    (merged_keeps rule safe minimum (forced_of rule safe override (before ++ x ∷ after)) b keeps
     (ap (int_le minimum) (sym one) ∙ reaches))
 
-forced_after : (rule : Rule) (safe minimum : ℤ) (over : Option ℤ) (after : List ℤ) (x : ℤ)
+forced_after : (rule : Rule) (safe minimum : ℤ) (override : Option ℤ) (after : List ℤ) (x : ℤ)
     → rule_keeps rule (int_lt safe minimum) ≡ true
-    → int_le minimum (forced_of rule safe over (x ∷ after)) ≡ true
-    → int_le minimum (forced_of rule safe over (x ∷ [])) ≡ true
-forced_after rule safe minimum over [] x keeps reaches = reaches
-forced_after rule safe minimum over (a ∷ after) x keeps reaches =
-    let one = forced_insert rule safe over (x ∷ []) after a (omega arith) in
-    forced_after rule safe minimum over after x keeps
-    (merged_keeps rule safe minimum (forced_of rule safe over (x ∷ after)) a keeps (ap (int_le minimum) (sym one)
+    → int_le minimum (forced_of rule safe override (x ∷ after)) ≡ true
+    → int_le minimum (forced_of rule safe override (x ∷ [])) ≡ true
+forced_after rule safe minimum override [] x keeps reaches = reaches
+forced_after rule safe minimum override (a ∷ after) x keeps reaches =
+    let one = forced_insert rule safe override (x ∷ []) after a (omega arith) in
+    forced_after rule safe minimum override after x keeps
+    (merged_keeps rule safe minimum (forced_of rule safe override (x ∷ after)) a keeps (ap (int_le minimum) (sym one)
     ∙ reaches))
 
-pub forced_keeps : (rule : Rule) (safe minimum : ℤ) (over : Option ℤ) (before after : List ℤ) (x : ℤ)
+pub forced_keeps : (rule : Rule) (safe minimum : ℤ) (override : Option ℤ) (before after : List ℤ) (x : ℤ)
     → rule_keeps rule (int_lt safe minimum) ≡ true
-    → int_le minimum (forced_of rule safe over (before ++ x ∷ after)) ≡ true
-    → int_le minimum (forced_of rule safe over (x ∷ [])) ≡ true
-forced_keeps rule safe minimum over before after x keeps reaches =
-    forced_after rule safe minimum over after x keeps
-    (forced_before rule safe minimum over before after x keeps reaches)
+    → int_le minimum (forced_of rule safe override (before ++ x ∷ after)) ≡ true
+    → int_le minimum (forced_of rule safe override (x ∷ [])) ≡ true
+forced_keeps rule safe minimum override before after x keeps reaches =
+    forced_after rule safe minimum override after x keeps
+    (forced_before rule safe minimum override before after x keeps reaches)
 
 -- two tests that agree at the field agree
 pub field_passes-same : (one other : Row → Bool) (reg : SysReg) (index : ℕ)

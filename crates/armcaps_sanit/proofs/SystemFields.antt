@@ -1,15 +1,14 @@
--- The value of a field over some cores: that the field can have it, and what one more core changes.
-use Rattle.std.proofs.Common.{◌≡◌, ℕ, ◌<◌, ◌≤◌, ◌⊎◌, inl, inr, Bool, true, false, cond, ◌/◌, ◌^◌, pow_pos, IsTrue, List, [], ◌∷◌, ◌++◌, Option, Some, None, slice_get, length, sym, ◌∙◌, ap, subst, arith}
+-- The value of a field override some cores: that the field can have it, and what one more core changes.
+use Rattle.std.proofs.Common.{◌≡◌, ℕ, ◌<◌, Bool, IsTrue, List, [], ◌∷◌, ◌++◌, Option, Some, None, slice_get, length, sym, ◌∙◌, ap, subst, arith}
 use Rattle.std.specs.Prelude.{ℤ, All, IfSome}
-use Rattle.std.proofs.lemmas.Nat.{mod_below}
 use Rattle.std.proofs.lemmas.List.{map-append, length-map}
 use Rattle.std.specs.Ordering.{int_eq}
-use Rattle.armcaps_bits.specs.Field.{unsigned_field}
-use Rattle.armcaps_bits.proofs.Signs.{number_fits}
+use Rattle.armcaps_tables.proofs.MergedWords.{field_in_fits}
+use Rattle.armcaps_tables.proofs.MergedFields.{merged_passes}
 use Rattle.armcaps_rule.specs.declared.rule.Rule.{Rule}
 use Rattle.armcaps_rule.specs.declared.rule.Rule.TheVariants.{Exact, Lower, Higher, HigherOrZero}
 use Rattle.armcaps_rule.specs.Rule.{merged, forced_of}
-use Rattle.armcaps_rule.proofs.Merging.{eq_not_false, merged_picks, merged_exact, fold_one, fold_front, fold_same}
+use Rattle.armcaps_rule.proofs.Merging.{eq_not_false, fold_one, fold_front, fold_same}
 use Rattle.armcaps_rule.proofs.Insertion.{by_bool}
 use Rattle.armcaps_rule.proofs.Leading.{int_eq_true}
 use Rattle.armcaps_rule.proofs.Overrides.{forced_again, forced_insert, forced_none, forced_more, forced_exact_safe, forced_exact_other}
@@ -22,51 +21,28 @@ use Rattle.armcaps_tables.specs.Overriding.{override_of, override_fits, AllFit, 
 use Rattle.armcaps_tables.proofs.Places.{row_safe, row_in_word}
 use Rattle.armcaps_sanit.specs.System.{field_values, local_field, system_field}
 
-picked_passes : (test : ℤ → Bool) (rule : Rule) (safe a b : ℤ) → IsTrue (test a) → IsTrue (test b) → (rule ≡ Exact → ⊥)
-    → IsTrue (test (merged rule safe a b))
-picked_passes test rule safe a b p q ne = on (merged_picks rule safe a b ne) where
-  on : (merged rule safe a b ≡ a) ⊎ (merged rule safe a b ≡ b) → IsTrue (test (merged rule safe a b))
-  on (inl e) = subst (λ z. IsTrue (test z)) (sym e) p
-  on (inr e) = subst (λ z. IsTrue (test z)) (sym e) q
-
--- whatever test the safe value and two others pass, their merge passes
-pub merged_passes : (test : ℤ → Bool) (rule : Rule) (safe a b : ℤ) → IsTrue (test safe) → IsTrue (test a) → IsTrue (test b)
-    → IsTrue (test (merged rule safe a b))
-merged_passes test Exact safe a b s p q = subst (λ z. IsTrue (test z)) (sym (merged_exact safe a b)) (chosen (int_eq a b)) where
-  chosen : (same : Bool) → IsTrue (test (cond same a safe))
-  chosen true = p
-  chosen false = s
-merged_passes test Lower safe a b s p q = picked_passes test Lower safe a b p q (λ e. cc)
-merged_passes test Higher safe a b s p q = picked_passes test Higher safe a b p q (λ e. cc)
-merged_passes test HigherOrZero safe a b s p q = picked_passes test HigherOrZero safe a b p q (λ e. cc)
-
-forced_two_passes : (test : ℤ → Bool) (rule : Rule) (safe over v : ℤ) → IsTrue (test safe) → IsTrue (test over) → IsTrue (test v) → (rule ≡ Exact → ⊥)
-    → IsTrue (test (forced_of rule safe (Some over) (v ∷ [])))
-forced_two_passes test rule safe over v s o p ne =
-    let is : forced_of rule safe (Some over) (v ∷ []) ≡ merged rule safe v over =
-    forced_more rule safe over (v ∷ []) ne ∙ fold_front rule safe (v ∷ []) over (omega arith) ∙ ap (λ w. merged rule safe w over) (fold_one rule safe v) in
-    subst (λ z. IsTrue (test z)) (sym is) (merged_passes test rule safe v over s p o)
+forced_two_passes : (test : ℤ → Bool) (rule : Rule) (safe override v : ℤ) → IsTrue (test safe) → IsTrue (test override) → IsTrue (test v) → (rule ≡ Exact → ⊥)
+    → IsTrue (test (forced_of rule safe (Some override) (v ∷ [])))
+forced_two_passes test rule safe override v s o p ne =
+    let is : forced_of rule safe (Some override) (v ∷ []) ≡ merged rule safe v override =
+    forced_more rule safe override (v ∷ []) ne ∙ fold_front rule safe (v ∷ []) override (omega arith) ∙ ap (λ w. merged rule safe w override) (fold_one rule safe v) in
+    subst (λ z. IsTrue (test z)) (sym is) (merged_passes test rule safe v override s p o)
 
 -- one value under an override
-forced_one_passes : (test : ℤ → Bool) (rule : Rule) (safe : ℤ) (over : Option ℤ) (v : ℤ) → IsTrue (test safe)
-    → IfSome over (λ value. IsTrue (test value)) → IsTrue (test v) → IsTrue (test (forced_of rule safe over (v ∷ [])))
+forced_one_passes : (test : ℤ → Bool) (rule : Rule) (safe : ℤ) (override : Option ℤ) (v : ℤ) → IsTrue (test safe)
+    → IfSome override (λ value. IsTrue (test value)) → IsTrue (test v) → IsTrue (test (forced_of rule safe override (v ∷ [])))
 forced_one_passes test rule safe None v s o p =
     subst (λ z. IsTrue (test z)) (sym (forced_none rule safe (v ∷ []) ∙ fold_one rule safe v)) p
-forced_one_passes test Exact safe (Some over) v s o p = by_bool (int_eq over safe)
-    (λ e. subst (λ z. IsTrue (test z)) (sym (forced_exact_safe safe over (v ∷ []) (int_eq_true over safe e))) s)
-    (λ e. subst (λ z. IsTrue (test z)) (sym (forced_exact_other safe over (v ∷ []) (λ same. eq_not_false over safe same e) ∙ fold_one Exact safe v)) p)
-forced_one_passes test Lower safe (Some over) v s o p = forced_two_passes test Lower safe over v s o p (λ e. cc)
-forced_one_passes test Higher safe (Some over) v s o p = forced_two_passes test Higher safe over v s o p (λ e. cc)
-forced_one_passes test HigherOrZero safe (Some over) v s o p = forced_two_passes test HigherOrZero safe over v s o p (λ e. cc)
+forced_one_passes test Exact safe (Some override) v s o p = by_bool (int_eq override safe)
+    (λ e. subst (λ z. IsTrue (test z)) (sym (forced_exact_safe safe override (v ∷ []) (int_eq_true override safe e))) s)
+    (λ e. subst (λ z. IsTrue (test z)) (sym (forced_exact_other safe override (v ∷ []) (λ same. eq_not_false override safe same e) ∙ fold_one Exact safe v)) p)
+forced_one_passes test Lower safe (Some override) v s o p = forced_two_passes test Lower safe override v s o p (λ e. cc)
+forced_one_passes test Higher safe (Some override) v s o p = forced_two_passes test Higher safe override v s o p (λ e. cc)
+forced_one_passes test HigherOrZero safe (Some override) v s o p = forced_two_passes test HigherOrZero safe override v s o p (λ e. cc)
 
-override_passes : (row : Row) (over : Option ℤ) → IsTrue (override_fits row over) → IfSome over (λ value. IsTrue (value_fits row value))
+override_passes : (row : Row) (override : Option ℤ) → IsTrue (override_fits row override) → IfSome override (λ value. IsTrue (value_fits row value))
 override_passes row None h = tt
 override_passes row (Some value) h = h
-
--- a field's value in any word is one that the field can have
-pub field_in_fits : (row : Row) (word : ℕ) → 1 ≤ row.width → IsTrue (value_fits row (field_in row word))
-field_in_fits row word some =
-    number_fits row.signed row.width (unsigned_field row.shift row.width word) some (mod_below (word / 2 ^ row.shift) (2 ^ row.width) (pow_pos row.width))
 
 -- the value that a core's field counts as is one that the field can have
 pub local_field_fits : (overrides : FieldOverrides) (core : Core) (reg : SysReg) (index : ℕ) (row : Row)
@@ -77,7 +53,7 @@ local_field_fits overrides core reg index row at fit =
     (row_safe reg index row at) (override_passes row (override_of overrides reg index) fit)
     (field_in_fits row (core_word core reg) (row_in_word reg index row at).0)
 
--- the value over some cores is one that the field can have
+-- the value override some cores is one that the field can have
 pub system_field_fits : (overrides : FieldOverrides) → AllFit overrides → (cores : List Core) → 0 < length cores
     → (reg : SysReg) → ValuesFit (system_field overrides cores reg) (rows_of reg)
 system_field_fits overrides fit [] some reg index row at = absurd (omega arith)
@@ -92,14 +68,14 @@ system_field_fits overrides fit (core ∷ next ∷ cores) some reg index row at 
     (merged_passes (value_fits row) row.rule row.safe (system_field overrides (next ∷ cores) reg index row)
     (field_in row (core_word core reg)) (row_safe reg index row at) more (field_in_fits row (core_word core reg) some_bits))
 
--- the field over some cores, after one more core, wherever it belongs
+-- the field override some cores, after one more core, wherever it belongs
 pub system_field_insert : (overrides : FieldOverrides) (before after : List Core) (core : Core) (reg : SysReg) (index : ℕ) (row : Row)
     → 0 < length (before ++ after)
     → system_field overrides (before ++ core ∷ after) reg index row
     ≡ merged row.rule row.safe (system_field overrides (before ++ after) reg index row) (field_in row (core_word core reg))
 system_field_insert overrides before after core reg index row some =
     let value : Core → ℤ = λ c. field_in row (core_word c reg) in
-    let over = override_of overrides reg index in
+    let override = override_of overrides reg index in
     let longer = map-append (λ (c : Core). field_in row (core_word c reg)) before (core ∷ after) in
     let shorter = map-append (λ (c : Core). field_in row (core_word c reg)) before after in
     ap (forced_of row.rule row.safe (override_of overrides reg index)) longer
@@ -108,7 +84,7 @@ system_field_insert overrides before after core reg index row some =
     (omega (arith, ap length shorter, length-map (before ++ after) (λ (c : Core). field_in row (core_word c reg))))
     ∙ ap (λ values. merged row.rule row.safe (forced_of row.rule row.safe (override_of overrides reg index) values) (field_in row (core_word core reg))) (sym shorter)
 
--- the field over some cores, merged with the value of one that is among them
+-- the field override some cores, merged with the value of one that is among them
 pub system_field_again : (overrides : FieldOverrides) (before after : List Core) (core : Core) (reg : SysReg) (index : ℕ)
     (row : Row)
     → merged row.rule row.safe (system_field overrides (before ++ core ∷ after) reg index row) (field_in row (core_word core reg))

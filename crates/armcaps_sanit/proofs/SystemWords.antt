@@ -3,6 +3,7 @@ use Rattle.std.proofs.Common.{◌≡◌, ℕ, ◌<◌, List, [], ◌∷◌, ◌+
 use Rattle.std.proofs.Math.Nat.{div-one, mod-eq_of_lt}
 use Rattle.std.proofs.lemmas.List.Edits.{fill_by_more}
 use Rattle.std.proofs.lemmas.List.FromFn.{fill_by_all}
+use Rattle.armcaps_tables.proofs.MergedWords.{merged_word_made}
 use Rattle.armcaps_rule.specs.Rule.{merged}
 use Rattle.armcaps_enc.specs.declared.register.SysReg.{SysReg}
 use Rattle.armcaps_enc.specs.declared.register.SysReg.TheVariants.{MidrEl1}
@@ -11,13 +12,12 @@ use Rattle.armcaps_enc.proofs.Places.{value_at}
 use Rattle.armcaps_tables.specs.Row.{Row}
 use Rattle.armcaps_tables.specs.Rows.{rows_of}
 use Rattle.armcaps_tables.specs.Core.{Core, core_word, word_at}
-use Rattle.armcaps_tables.specs.Fields.{field_in, value_fits, ValuesFit, HasFieldsAlone, IsMadeOf}
+use Rattle.armcaps_tables.specs.Fields.{field_in, HasFieldsAlone, IsMadeOf}
 use Rattle.armcaps_tables.specs.Merging.{merged_word}
 use Rattle.armcaps_tables.specs.Overriding.{AllFit, FieldOverrides}
 use Rattle.armcaps_tables.proofs.FieldWords.{made_of, word_of-same}
-use Rattle.armcaps_tables.proofs.Places.{row_safe, row_in_word}
 use Rattle.armcaps_sanit.specs.System.{system_field, system_word, system_words, merged_words, IsSystemOf}
-use Rattle.armcaps_sanit.proofs.SystemFields.{merged_passes, field_in_fits, system_field_fits, system_field_insert, system_field_again}
+use Rattle.armcaps_sanit.proofs.SystemFields.{system_field_fits, system_field_insert, system_field_again}
 
 pub map_same : (f g : SysReg → ℕ) (xs : List SysReg) → ((reg : SysReg) → f reg ≡ g reg) → map f xs ≡ map g xs
 map_same f g [] same = refl
@@ -53,22 +53,6 @@ pub system_word_made : (overrides : FieldOverrides) (cores : List Core) (reg : S
 unfolding system_word
 system_word_made overrides cores reg fit some =
     made_of reg (system_field overrides cores reg) (system_field_fits overrides fit cores some reg)
-
--- the values of two words, merged, are values that the fields can have
-pub merged_fits : (reg : SysReg) (current word : ℕ)
-    → ValuesFit (λ index row. merged row.rule row.safe (field_in row current) (field_in row word)) (rows_of reg)
-merged_fits reg current word index row at =
-    let some = (row_in_word reg index row at).0 in
-    merged_passes (value_fits row) row.rule row.safe (field_in row current) (field_in row word) (row_safe reg index row at)
-    (field_in_fits row current some) (field_in_fits row word some)
-
--- a merged word is made of the merged values
-pub merged_word_made : (reg : SysReg) (current word : ℕ)
-    → IsMadeOf (λ index row. merged row.rule row.safe (field_in row current) (field_in row word)) (rows_of reg)
-    (merged_word reg current word)
-unfolding merged_word
-merged_word_made reg current word =
-    made_of reg (λ index row. merged row.rule row.safe (field_in row current) (field_in row word)) (merged_fits reg current word)
 
 -- a register's word over some cores, after one more core, wherever it belongs
 system_word_insert : (overrides : FieldOverrides) (before after : List Core) (core : Core) (reg : SysReg) → AllFit overrides

@@ -11,7 +11,8 @@ use Rattle.armcaps_tables.proofs.FieldWords.{made_of, word_of-same}
 use Rattle.armcaps_tables.proofs.Places.{row_safe, row_in_word}
 use Rattle.armcaps_sanit.specs.System.{system_field, IsSystemOf}
 use Rattle.armcaps_sanit.specs.Users.{shown, user_field, user_word, shown_word}
-use Rattle.armcaps_sanit.proofs.SystemFields.{field_in_fits, system_field_fits}
+use Rattle.armcaps_sanit.proofs.SystemFields.{system_field_fits}
+use Rattle.armcaps_tables.proofs.MergedWords.{field_in_fits}
 use Rattle.armcaps_sanit.proofs.SystemWords.{system_field_at}
 
 shown_passes : (test : ℤ → Bool) (visible : Bool) (value safe : ℤ) → IsTrue (test value) → IsTrue (test safe)

@@ -30,14 +30,14 @@ pub fn note(boot: &CoreRegs, overrides: &Overrides, reg: SysReg, index: usize) -
     ensures { option_map (field_note overrides.now boot.now reg index) (slice_get (rows_of reg) index)
         ≡ Some result }
 {
-    let Some(over) = overrides.get(reg, index) else {
+    let Some(override_) = overrides.get(reg, index) else {
         return Note::None;
     };
     let field = field(reg, index);
     let value = field.span.value(boot.get(reg));
-    if merge(field.rule, field.safe, over, value) != over {
+    if merge(field.rule, field.safe, override_, value) != override_ {
         Note::Ignored
-    } else if value == over {
+    } else if value == override_ {
         Note::Already
     } else {
         Note::Forced

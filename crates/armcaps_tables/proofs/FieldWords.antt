@@ -1,7 +1,7 @@
 -- The word that is made of values of a register's fields.
 use Rattle.std.proofs.Common.{◌≡◌, ℕ, ◌+◌, ◌-◌, ◌*◌, ◌/◌, ◌%◌, ◌^◌, ◌<◌, ◌≤◌, inl, inr, suc, zero, true, IsTrue, List, [], ◌∷◌, Some, slice_get, refl, sym, ◌∙◌, ap, subst, lit<, pow_pos, arith, length, drop, add-one, sum_by}
 use Rattle.std.proofs.Math.Nat.{pow-le-pow_right, mod-eq_of_lt, add_comm, zero-div, zero-mod, mod-one}
-use Rattle.std.proofs.lemmas.Bool.{leb-true, le-leb}
+use Rattle.std.proofs.lemmas.Bool.{leb-true, le-leb, and_parts}
 use Rattle.std.proofs.lemmas.List.Sums.{sum_by-cons}
 use Rattle.std.proofs.lemmas.List.{drop_all}
 use Rattle.std.proofs.lemmas.Nat.{mod_below, mod-pow-add}
@@ -15,7 +15,7 @@ use Rattle.armcaps_tables.specs.Row.{Row}
 use Rattle.armcaps_tables.specs.Rows.{rows_of}
 use Rattle.armcaps_tables.specs.Facts.{counts_from_zero, row_holds, rises}
 use Rattle.armcaps_tables.specs.Fields.{bits_in_place, value_fits, word_of, ValuesFit, IsOutside, IsMadeOf}
-use Rattle.armcaps_tables.proofs.Places.{both, first_of, rises_within, rise_of, hold_of, row_in_word}
+use Rattle.armcaps_tables.proofs.Places.{first_of, rises_within, rise_of, hold_of, row_in_word}
 
 pub row_some : (row : Row) → row_holds row ≡ true → 1 ≤ row.width
 row_some row h =
@@ -73,8 +73,8 @@ grown value first [] end base word up hold fit low is =
       within = omega (arith, pow-le-pow_right {n = 2} (lit< tt) top);
     }
 grown value first (row ∷ rows) end base word up hold fit low is =
-    let rising = both (nat_le end row.shift) (rises (row.shift + row.width) rows) up in
-    let holding = both (row_holds row) (list_all row_holds rows) hold in
+    let rising = and_parts (nat_le end row.shift) (rises (row.shift + row.width) rows) up in
+    let holding = and_parts (row_holds row) (list_all row_holds rows) hold in
     let some = row_some row holding.0 in
     let over : end ≤ row.shift = leb-true end row.shift rising.0 in
     let top : row.shift + row.width ≤ 64 = rises_within (row.shift + row.width) rows rising.1 in
@@ -154,7 +154,7 @@ unfolding end_at
 rises_from end rows zero h = h
 rises_from end [] (suc index) h = h
 rises_from end (row ∷ rows) (suc index) h =
-    rises_from (row.shift + row.width) rows index (both (nat_le end row.shift) (rises (row.shift + row.width) rows) h).1
+    rises_from (row.shift + row.width) rows index (and_parts (nat_le end row.shift) (rises (row.shift + row.width) rows) h).1
 
 end_past : (end : ℕ) (rows : List Row) (index : ℕ) (row : Row) → slice_get rows index ≡ Some row
     → end_at end rows (suc index) ≡ row.shift + row.width
@@ -186,7 +186,7 @@ below_next value reg index word row far at =
     let up = rises_from 0 (rows_of reg) index (rise_of reg) in
     let up' = (rw (drop_at (rows_of reg) index row at) at up) in
     let over = leb-true (end_at 0 (rows_of reg) index) row.shift
-    (both (nat_le (end_at 0 (rows_of reg) index) row.shift)
+    (and_parts (nat_le (end_at 0 (rows_of reg) index) row.shift)
     (rises (row.shift + row.width) (drop (suc index) (rows_of reg))) up').0 in
     let low = far.low in
     omega (arith, pow-le-pow_right {n = 2} (lit< tt) over)
@@ -228,10 +228,10 @@ starts_from : (end : ℕ) (rows : List Row) (index : ℕ) (row : Row) → rises 
 starts_from end [] index row up at = cc
 starts_from end (first ∷ rows) zero row up at =
     let same : first ≡ row = cc in
-    let over = leb-true end first.shift (both (nat_le end first.shift) (rises (first.shift + first.width) rows) up).0 in
+    let over = leb-true end first.shift (and_parts (nat_le end first.shift) (rises (first.shift + first.width) rows) up).0 in
     subst (λ (r : Row). end ≤ r.shift) same over
 starts_from end (first ∷ rows) (suc index) row up at =
-    let parts = both (nat_le end first.shift) (rises (first.shift + first.width) rows) up in
+    let parts = and_parts (nat_le end first.shift) (rises (first.shift + first.width) rows) up in
     let over = leb-true end first.shift parts.0 in
     let more = starts_from (first.shift + first.width) rows index row parts.1 at in
     omega arith
@@ -259,7 +259,7 @@ one_word end [] one other up small small' low fields outside =
     let whole' = subst (λ (n : ℕ). one % 2 ^ n ≡ other % 2 ^ n) all whole in
     sym (mod-eq_of_lt small) ∙ whole' ∙ mod-eq_of_lt small'
 one_word end (row ∷ rows) one other up small small' low fields outside =
-    let parts = both (nat_le end row.shift) (rises (row.shift + row.width) rows) up in
+    let parts = and_parts (nat_le end row.shift) (rises (row.shift + row.width) rows) up in
     let over : end ≤ row.shift = leb-true end row.shift parts.0 in
     let top : row.shift + row.width ≤ 64 = rises_within (row.shift + row.width) rows parts.1 in
     let gap : end + (row.shift - end) ≡ row.shift = omega arith in

@@ -4,12 +4,13 @@ use Rattle.std.specs.List.{list_all, list_any}
 use Rattle.std.specs.Ordering.{int_eq}
 use Rattle.std.specs.Int.Bits.{and_zero_r, or_zero_l, or_zero_r}
 use Rattle.std.proofs.Math.Nat.{mod-mod, zero-mul}
-use Rattle.std.proofs.lemmas.Bool.{lt-ltb, eq-eqb, false≢true}
+use Rattle.std.proofs.lemmas.Bool.{lt-ltb, eq-eqb, false≢true, and_parts}
 use Rattle.std.proofs.lemmas.Bool.Decides.{eqb_tells}
 use Rattle.std.proofs.lemmas.List.Folds.{Any-from_list_any}
 use Rattle.std.proofs.lemmas.List.Sums.{sum_by-cons}
 use Rattle.std.proofs.lemmas.Nat.{and_le_l, and_mask, and_mod, and_shr, mod_below, or_lt, or_mod, or_shr}
 use Rattle.std.proofs.lemmas.Option.{slice_get-get_or}
+use Rattle.armcaps_logic.proofs.Searches.{list_any-item}
 use Rattle.armcaps_bits.specs.Field.{field_bits, field_fits, number_of, unsigned_field}
 use Rattle.armcaps_bits.proofs.Signs.{field_bits-number_of, number_fits, one_number, signed_number-low}
 use Rattle.armcaps_enc.specs.declared.register.SysReg.{SysReg}
@@ -20,7 +21,7 @@ use Rattle.armcaps_tables.specs.Facts.{row_holds}
 use Rattle.armcaps_tables.specs.Fields.{field_in, word_of, ValuesFit, IsMadeOf}
 use Rattle.armcaps_tables.specs.Masks.{field_mask, mask_of}
 use Rattle.armcaps_tables.proofs.FieldWords.{made_of, only_one, row_some, word_from, word_from-cons, word_of-same}
-use Rattle.armcaps_tables.proofs.Places.{both, hold_of, none_at, row_in_word, row_safe}
+use Rattle.armcaps_tables.proofs.Places.{hold_of, row_in_word, row_safe}
 
 -- 0 is a value of every field, and stands for no bits
 zero_fits : (signed : Bool) (width : ℕ) → IsTrue (field_fits signed width (pos 0))
@@ -39,7 +40,7 @@ mask_from : (test : Row → Bool) (first : ℕ) (rows : List Row) → list_all r
     → mask_of test rows ≡ word_from (ones test) first rows
 mask_from test first [] hold = refl
 mask_from test first (row ∷ rows) hold =
-    let parts = both (row_holds row) (list_all row_holds rows) hold in
+    let parts = and_parts (row_holds row) (list_all row_holds rows) hold in
     let some : 1 ≤ row.width = row_some row parts.0 in
     let bits : field_bits row.width (number_of row.signed row.width (2 ^ row.width - 1)) ≡ 2 ^ row.width - 1 =
     field_bits-number_of row.signed row.width (2 ^ row.width - 1) some (omega (arith, pow_pos row.width)) in
@@ -247,7 +248,7 @@ alike : (reg : SysReg) (one other : ℕ) → one < 2 ^ 64 → other < 2 ^ 64
 alike reg one other small small' none =
     masked_word (λ row. row.strict) reg one small
     ∙ word_of-same (masked (λ row. row.strict) one) (masked (λ row. row.strict) other) (rows_of reg) (λ index row at.
-    alike_field one other row (none_at (differs one other) (rows_of reg) index row none at))
+    alike_field one other row (list_any-item (differs one other) (rows_of reg) index row none at))
     ∙ sym (masked_word (λ row. row.strict) reg other small')
 
 -- and where one does, they differ under it

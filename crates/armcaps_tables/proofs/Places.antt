@@ -1,11 +1,10 @@
 -- What the tests of a table say of the rows at its places.
-use Rattle.std.proofs.Common.{◌≡◌, ℕ, ◌+◌, ◌<◌, ◌≤◌, suc, zero, Bool, true, false, not, ◌&&◌, ◌||◌, IsTrue, nat_le, List, [], ◌∷◌, Option, Some, None, IfSome, get_or, slice_get, refl, sym, ◌∙◌, ap, subst, inl, inr, arith}
+use Rattle.std.proofs.Common.{◌≡◌, ℕ, ◌+◌, ◌<◌, ◌≤◌, suc, zero, Bool, true, false, not, ◌&&◌, ◌||◌, IsTrue, nat_le, List, [], ◌∷◌, Option, Some, None, IfSome, slice_get, sym, ◌∙◌, ap, subst, inl, inr, arith}
 use Rattle.std.specs.List.{list_all, list_any}
 use Rattle.std.specs.Str.{bytes_eq}
-use Rattle.std.proofs.lemmas.Bool.{cases_lt, leb-true, false≢true}
-use Rattle.std.proofs.lemmas.List.Folds.{list_any_at}
-use Rattle.std.proofs.lemmas.Option.{get_or_from_slice_get, slice_get_within}
+use Rattle.std.proofs.lemmas.Bool.{cases_lt, leb-true, false≢true, and_parts, not-true}
 use Rattle.std.proofs.lemmas.Slice.Eq.{bytes_eq-Decides}
+use Rattle.armcaps_logic.proofs.Searches.{list_all-item, list_any-item}
 use Rattle.armcaps_bits.specs.Field.{IsRange, field_fits}
 use Rattle.armcaps_rule.specs.declared.rule.Rule.TheVariants.{HigherOrZero}
 use Rattle.armcaps_enc.specs.declared.register.SysReg.{SysReg}
@@ -14,49 +13,12 @@ use Rattle.armcaps_tables.specs.Rows.{rows_of}
 use Rattle.armcaps_tables.specs.Facts.{counts_from_zero, rises, row_holds, names_differ}
 use Rattle.armcaps_tables.proofs.Tables.{tables}
 
--- both sides of a test that holds
-pub both : (a b : Bool) → (a && b) ≡ true → (a ≡ true) × (b ≡ true)
-both true b h = (refl, h)
-both false b h = absurd (false≢true h)
-
--- a test that fails, from either
-neither : (a b : Bool) → (a || b) ≡ false → (a ≡ false) × (b ≡ false)
-neither true b h = absurd (false≢true (sym h))
-neither false b h = (refl, h)
-
-not_true : (a : Bool) → not a ≡ true → a ≡ false
-not_true true h = absurd (false≢true h)
-not_true false h = refl
-
--- an element of a list that passes a test whole passes it
-pub all_at : {X : Type 0} (test : X → Bool) (xs : List X) (i : ℕ) (x : X) → list_all test xs ≡ true
-    → slice_get xs i ≡ Some x → test x ≡ true
-all_at test [] i x passes at = cc
-all_at test (y ∷ ys) zero x passes at =
-    let same : y ≡ x = cc in
-    let Passes : _ → Type 0 = λ z. test z ≡ true in
-    subst Passes same (both (test y) (list_all test ys) passes).0
-all_at test (y ∷ ys) (suc i) x passes at = all_at test ys i x (both (test y) (list_all test ys) passes).1 at
-
--- no element passes a test that the list does not pass anywhere
-pub none_at : {X : Type 0} (test : X → Bool) (xs : List X) (i : ℕ) (x : X) → list_any test xs ≡ false
-    → slice_get xs i ≡ Some x → test x ≡ false
-none_at test xs i x fails at = by_test (test x) refl
-  where
-    by_test : (passes : Bool) → test x ≡ passes → test x ≡ false
-    by_test false is = is
-    by_test true is =
-        let here : get_or xs i x ≡ x = get_or_from_slice_get xs i x x at in
-        let found : list_any test xs ≡ true =
-        list_any_at test xs i x (slice_get_within xs i x at) (ap test here ∙ is) in
-        absurd (false≢true (sym fails ∙ found))
-
 -- rows that rise from an end leave it within the word
 pub rises_within : (end : ℕ) (rows : List Row) → rises end rows ≡ true → end ≤ 64
 rises_within end [] rise = leb-true end 64 rise
 rises_within end (row ∷ rows) rise =
     let parts : (nat_le end row.shift ≡ true) × (rises (row.shift + row.width) rows ≡ true) =
-    both (nat_le end row.shift) (rises (row.shift + row.width) rows) rise in
+    and_parts (nat_le end row.shift) (rises (row.shift + row.width) rows) rise in
     omega (arith, leb-true end row.shift parts.0, rises_within (row.shift + row.width) rows parts.1)
 
 -- a row begins at or after the end that came before it, and ends within the word
@@ -65,13 +27,13 @@ rises_at : (end : ℕ) (rows : List Row) (i : ℕ) (row : Row) → rises end row
 rises_at end [] i row rise at = cc
 rises_at end (first ∷ rows) zero row rise at =
     let parts : (nat_le end first.shift ≡ true) × (rises (first.shift + first.width) rows ≡ true) =
-    both (nat_le end first.shift) (rises (first.shift + first.width) rows) rise in
+    and_parts (nat_le end first.shift) (rises (first.shift + first.width) rows) rise in
     let same : first ≡ row = cc in
     let At : Row → Type 0 = λ it. (end ≤ it.shift) × (it.shift + it.width ≤ 64) in
     subst At same (leb-true end first.shift parts.0, rises_within (first.shift + first.width) rows parts.1)
 rises_at end (first ∷ rows) (suc i) row rise at =
     let parts : (nat_le end first.shift ≡ true) × (rises (first.shift + first.width) rows ≡ true) =
-    both (nat_le end first.shift) (rises (first.shift + first.width) rows) rise in
+    and_parts (nat_le end first.shift) (rises (first.shift + first.width) rows) rise in
     let later : (first.shift + first.width ≤ row.shift) × (row.shift + row.width ≤ 64) =
     rises_at (first.shift + first.width) rows i row parts.1 at in
     (omega (arith, leb-true end first.shift parts.0), later.1)
@@ -85,10 +47,10 @@ rises_apart end (first ∷ rows) zero (suc j) one other rise before at later =
     let same : first ≡ one = cc in
     let Apart : Row → Type 0 = λ it. it.shift + it.width ≤ other.shift in
     subst Apart same (rises_at (first.shift + first.width) rows j other
-    (both (nat_le end first.shift) (rises (first.shift + first.width) rows) rise).1 later).0
+    (and_parts (nat_le end first.shift) (rises (first.shift + first.width) rows) rise).1 later).0
 rises_apart end (first ∷ rows) (suc i) (suc j) one other rise before at later =
     rises_apart (first.shift + first.width) rows i j one other
-    (both (nat_le end first.shift) (rises (first.shift + first.width) rows) rise).1 (omega arith) at later
+    (and_parts (nat_le end first.shift) (rises (first.shift + first.width) rows) rise).1 (omega arith) at later
 
 -- of two rows, the later has another name
 differ_at : (rows : List Row) (i j : ℕ) (one other : Row) → names_differ rows ≡ true → i < j
@@ -99,38 +61,38 @@ differ_at (first ∷ rows) zero (suc j) one other differ before at later =
     let same : first ≡ one = cc in
     let Differ : Row → Type 0 = λ it. bytes_eq it.name other.name ≡ false in
     let named : Row → Bool = λ it. bytes_eq first.name it.name in
-    subst Differ same (none_at named rows j other
-    (not_true (list_any named rows) (both (not (list_any named rows)) (names_differ rows) differ).0) later)
+    subst Differ same (list_any-item named rows j other
+    (not-true (list_any named rows) (and_parts (not (list_any named rows)) (names_differ rows) differ).0) later)
 differ_at (first ∷ rows) (suc i) (suc j) one other differ before at later =
     let named : Row → Bool = λ it. bytes_eq first.name it.name in
-    differ_at rows i j one other (both (not (list_any named rows)) (names_differ rows) differ).1 (omega arith) at later
+    differ_at rows i j one other (and_parts (not (list_any named rows)) (names_differ rows) differ).1 (omega arith) at later
 
 -- the three parts of the test
 pub rise_of : (reg : SysReg) → rises 0 (rows_of reg) ≡ true
 rise_of reg =
-    (both (rises 0 (rows_of reg)) (list_all row_holds (rows_of reg))
-    (both (rises 0 (rows_of reg) && list_all row_holds (rows_of reg)) (names_differ (rows_of reg)) (tables reg)).0).0
+    (and_parts (rises 0 (rows_of reg)) (list_all row_holds (rows_of reg))
+    (and_parts (rises 0 (rows_of reg) && list_all row_holds (rows_of reg)) (names_differ (rows_of reg)) (tables reg)).0).0
 
 pub hold_of : (reg : SysReg) → list_all row_holds (rows_of reg) ≡ true
 hold_of reg =
-    (both (rises 0 (rows_of reg)) (list_all row_holds (rows_of reg))
-    (both (rises 0 (rows_of reg) && list_all row_holds (rows_of reg)) (names_differ (rows_of reg)) (tables reg)).0).1
+    (and_parts (rises 0 (rows_of reg)) (list_all row_holds (rows_of reg))
+    (and_parts (rises 0 (rows_of reg) && list_all row_holds (rows_of reg)) (names_differ (rows_of reg)) (tables reg)).0).1
 
 names_of : (reg : SysReg) → names_differ (rows_of reg) ≡ true
 names_of reg =
-    (both (rises 0 (rows_of reg) && list_all row_holds (rows_of reg)) (names_differ (rows_of reg)) (tables reg)).1
+    (and_parts (rises 0 (rows_of reg) && list_all row_holds (rows_of reg)) (names_differ (rows_of reg)) (tables reg)).1
 
 -- a test that an implication holds
 implied : (a b : Bool) → (not a || not b) ≡ true → a ≡ true → b ≡ false
-implied true b h is = not_true b h
+implied true b h is = not-true b h
 implied false b h is = absurd (false≢true is)
 
 -- the parts of the test of a row
 pub first_of : (a b c d : Bool) → (a && b && c && d) ≡ true → (a ≡ true) × (b ≡ true) × (c ≡ true) × (d ≡ true)
 first_of a b c d h =
-    let last : ((a && b && c) ≡ true) × (d ≡ true) = both (a && b && c) d h in
-    let third : ((a && b) ≡ true) × (c ≡ true) = both (a && b) c last.0 in
-    let two : (a ≡ true) × (b ≡ true) = both a b third.0 in
+    let last : ((a && b && c) ≡ true) × (d ≡ true) = and_parts (a && b && c) d h in
+    let third : ((a && b) ≡ true) × (c ≡ true) = and_parts (a && b) c last.0 in
+    let two : (a ≡ true) × (b ≡ true) = and_parts a b third.0 in
     (two.0, two.1, third.1, last.1)
 
 parts_of : (reg : SysReg) (i : ℕ) (row : Row) → slice_get (rows_of reg) i ≡ Some row
@@ -138,7 +100,7 @@ parts_of : (reg : SysReg) (i : ℕ) (row : Row) → slice_get (rows_of reg) i �
     ((not (counts_from_zero row.rule) || not row.signed) ≡ true)
 parts_of reg i row at =
     first_of (nat_le 1 row.width) (nat_le row.width 32) (field_fits row.signed row.width row.safe)
-    (not (counts_from_zero row.rule) || not row.signed) (all_at row_holds (rows_of reg) i row (hold_of reg) at)
+    (not (counts_from_zero row.rule) || not row.signed) (list_all-item row_holds (rows_of reg) i row (hold_of reg) at)
 
 -- a field of a table is a range of the word
 pub row_in_word : (reg : SysReg) (i : ℕ) (row : Row) → slice_get (rows_of reg) i ≡ Some row

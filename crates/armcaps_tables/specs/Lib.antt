@@ -1,6 +1,7 @@
 -- What the contracts of this crate cite.
 pub mod Core
 pub mod Facts
+pub mod FieldNames
 pub mod Fields
 pub mod Masks
 pub mod Merging

@@ -4,6 +4,7 @@
 mod core_regs;
 mod counts;
 mod field_row;
+pub mod fields;
 mod lines;
 mod masks;
 mod merge;

@@ -72,15 +72,15 @@ const MERGES: [(SysReg, u64, u64, u64); 14] = [
 ];
 
 // The same merge by the rows, one after the other.
-fn merged_by_rows(reg: SysReg, cur: u64, new: u64) -> u64 {
+fn merged_by_rows(reg: SysReg, current: u64, other: u64) -> u64 {
     let mut word = 0;
     for index in 0..count(reg) {
         let field = field(reg, index);
         let value = merge(
             field.rule,
             field.safe,
-            field.span.value(cur),
-            field.span.value(new),
+            field.span.value(current),
+            field.span.value(other),
         );
         if field.span.fits(value) {
             word = field.span.put(word, value);
@@ -91,10 +91,10 @@ fn merged_by_rows(reg: SysReg, cur: u64, new: u64) -> u64 {
 
 #[test]
 fn merges_of_words(rt: HostRuntime) {
-    for (reg, cur, new, merged) in MERGES {
-        assert_eq!(rt; merge_words(reg, cur, new), merged);
-        assert_eq!(rt; merge_words(reg, new, cur), merged);
-        assert_eq!(rt; merged_by_rows(reg, cur, new), merged);
+    for (reg, current, other, merged) in MERGES {
+        assert_eq!(rt; merge_words(reg, current, other), merged);
+        assert_eq!(rt; merge_words(reg, other, current), merged);
+        assert_eq!(rt; merged_by_rows(reg, current, other), merged);
     }
 }
 

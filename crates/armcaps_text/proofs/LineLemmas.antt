@@ -5,7 +5,7 @@ use Rattle.std.proofs.lemmas.Grind.{common_steps}
 use Rattle.std.proofs.lemmas.Bool.Decides.{nat_tests}
 use Rattle.std.proofs.lemmas.List.Splits.{slice_split_first, slice_split_none, length-slice_split}
 use Rattle.std.proofs.lemmas.List.Sums.{fails_before_first}
-use Rattle.armcaps_lex.proofs.PieceLemmas.{position_some}
+use Rattle.armcaps_logic.proofs.Searches.{position_some}
 use Rattle.armcaps_text.specs.Lines.{all_but_last, ended_lines, first_mebibyte}
 
 abbrev is_feed : ℕ → Bool

@@ -2,7 +2,7 @@
 use Rattle.std.proofs.Common.{◌≡◌, ℕ, ◌+◌, ◌-◌, Bool, not, List, [], length, take, drop, Some, None, sym, ap, ◌∙◌, arith}
 use Rattle.std.specs.List.{position, position_or_len, after_first}
 use Rattle.std.proofs.lemmas.Grind.{common_steps}
-use Rattle.armcaps_lex.proofs.PieceLemmas.{position_some}
+use Rattle.armcaps_logic.proofs.Searches.{position_some}
 use Rattle.armcaps_text.proofs.LineLemmas.{position_none}
 use Rattle.armcaps_text.specs.Tokens.{is_space, text_after_word}
 

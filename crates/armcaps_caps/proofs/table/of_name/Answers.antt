@@ -1,5 +1,5 @@
 use Rattle.std.proofs.Common.{◌∙◌, sym, arith}
-use Rattle.armcaps_tables.proofs.First.{position_found, position_none}
+use Rattle.armcaps_logic.proofs.Searches.{position_found, position_absent}
 use Rattle.armcaps_caps.specs.Capabilities.{capability_named}
 use Rattle.armcaps_caps.specs.Facts.{has_name}
 use Rattle.armcaps_caps.specs.Rows.{capability_rows}
@@ -20,5 +20,5 @@ returns-then-is_named-clause-named c = named_at c.args.name.now c.loop-number.nu
 pub returns-clause-first : goal.returns-clause-first
 unfolding capability_named
 returns-clause-first c =
-    sym (position_none (has_name c.args.name.now) capability_rows
+    sym (position_absent (has_name c.args.name.now) capability_rows
     (λ k other h. c.loop-number.invariant k other (omega (arith, all_listed))))

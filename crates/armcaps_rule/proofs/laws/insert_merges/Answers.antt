@@ -9,5 +9,5 @@ returns-clause-fold c =
 
 pub returns-clause-forced : goal.returns-clause-forced
 returns-clause-forced c =
-    forced_insert c.args.rule c.args.safe c.args.over c.args.before.now c.args.after.now c.args.value
+    forced_insert c.args.rule c.args.safe c.args.override_ c.args.before.now c.args.after.now c.args.value
     (omega (arith, length-append {A = ℤ}))

@@ -10,7 +10,7 @@ loop-place-init c = filled_none _ _ refl
 
 pub loop-place-preserved : goal.loop-place-preserved
 loop-place-preserved c =
-    let here = rw (c.get.ensures.word, c.place.ensures.value) at c.merge_words.ensures in
+    let here = rw (c.get.ensures.word, c.place.ensures.value) at c.merge_words.ensures.word in
     filled_more (λ reg. merged_word reg (word_at c.args.words.now reg) (core_word c.args.core.now reg)) c.loop-place.place
     c.loop-place.merged c.merge_words.result c.loop-place-test.true c.loop-place.invariant here
 

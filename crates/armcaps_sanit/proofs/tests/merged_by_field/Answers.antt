@@ -6,7 +6,7 @@ use Rattle.armcaps_tables.specs.Merging.{merged_word}
 use Rattle.armcaps_tables.specs.RowOf.{row_of}
 use Rattle.armcaps_tables.specs.Rows.{rows_of}
 use Rattle.armcaps_tables.proofs.FieldWords.{so_far_all}
-use Rattle.armcaps_sanit.proofs.SystemWords.{merged_fits}
+use Rattle.armcaps_tables.proofs.MergedWords.{merged_fits}
 use Rattle.armcaps_sanit.proofs.WordsByField.{held_fits, so_far_put}
 use Rattle.armcaps_sanit.proofs.tests.merged_by_field.Goals as goal
 

@@ -1,7 +1,7 @@
 use Rattle.std.proofs.Common.{◌∙◌, sym, arith}
 use Rattle.armcaps_tables.specs.Rows.{rows_of}
 use Rattle.armcaps_tables.specs.Facts.{has_name}
-use Rattle.armcaps_tables.proofs.First.{position_found, position_none}
+use Rattle.armcaps_logic.proofs.Searches.{position_found, position_absent}
 use Rattle.armcaps_tables.proofs.table.find.Goals as goal
 
 pub returns-then-is_named-clause-first : goal.returns-then-is_named-clause-first
@@ -11,5 +11,5 @@ returns-then-is_named-clause-first c =
 
 pub returns-clause-first : goal.returns-clause-first
 returns-clause-first c =
-    sym (position_none (has_name c.args.name.now) (rows_of c.args.reg)
+    sym (position_absent (has_name c.args.name.now) (rows_of c.args.reg)
     (λ k other h. c.loop-index.invariant k other (omega arith)))

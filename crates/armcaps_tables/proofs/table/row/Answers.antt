@@ -3,7 +3,7 @@ use Rattle.armcaps_bits.specs.Field.{field_fits}
 use Rattle.armcaps_rule.specs.declared.rule.Rule.TheVariants.{HigherOrZero}
 use Rattle.armcaps_tables.specs.Row.{Row}
 use Rattle.armcaps_tables.specs.RowOf.{row_of}
-use Rattle.armcaps_tables.proofs.First.{IfSome-option_map}
+use Rattle.armcaps_logic.proofs.Options.{IfSome-option_map}
 use Rattle.armcaps_tables.proofs.Places.{found_safe, found_unsigned}
 use Rattle.armcaps_tables.proofs.table.row.Goals as goal
 
