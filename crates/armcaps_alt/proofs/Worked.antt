@@ -1,17 +1,16 @@
 -- The definitions, evaluated on a small image: a table of three entries at its begin, their sites from 36 on, their
 -- replacements from 52 on.
-use Rattle.std.proofs.Common.{◌≡◌, ◌==◌, ◌++◌, ◌∷◌, [], ℕ, ℤ, Bool, List, Option, None, Some, map, negsuc, pos, refl, true, false}
+use Rattle.std.proofs.Common.{◌≡◌, ◌==◌, ◌++◌, ◌∷◌, [], ℕ, ℤ, Bool, List, None, Some, map, negsuc, pos, refl, true, false}
 use Rattle.std.specs.List.{flat_map}
 use Rattle.armcaps_insn.specs.Encodings.{class_of, encodings}
 use Rattle.armcaps_alt.specs.declared.callback_kind.CallbackKind.TheVariants as callback
 use Rattle.armcaps_alt.specs.declared.named_number.Named.TheVariants as named
-use Rattle.armcaps_alt.specs.declared.patch_kind.PatchKind.{PatchKind}
 use Rattle.armcaps_alt.specs.declared.patch_kind.PatchKind.TheVariants.{CallbackLength, Length, Literal, Range, ReplacementOutside, SiteOutside, Unaligned, UnknownCallback, UnknownCap}
 use Rattle.armcaps_alt.specs.declared.smccc_conduit.Conduit.TheVariants as conduit
 use Rattle.armcaps_alt.specs.declared.table_entry.Entry.{Entry}
-use Rattle.armcaps_alt.specs.declared.table_place.Layout.{Layout}
 use Rattle.armcaps_alt.specs.Entries.{Features}
-use Rattle.armcaps_alt.specs.Patched.{byte_of, patched_image}
+use Rattle.armcaps_image.specs.Bytes.{byte_of}
+use Rattle.armcaps_alt.specs.Patched.{patched_image}
 use Rattle.armcaps_alt.specs.Refusals.{first_refusal, refusal_of}
 use Rattle.armcaps_alt.specs.Words.{callback_word_of}
 

@@ -1,12 +1,12 @@
 -- The entries of a table of alternatives (Linux, arch/arm64/include/asm/alternative.h, `struct alt_instr`).
-use Rattle.std.specs.Prelude.{◌+◌, ◌*◌, ◌%◌, ◌^◌, ◌+ℤ◌, ℕ, Bool, List, Option, drop, filter, map, nat_le, pos, slice_index, unwrap_or, true, false}
+use Rattle.std.specs.Prelude.{◌+◌, ◌*◌, ◌%◌, ◌^◌, ◌+ℤ◌, ℕ, Bool, List, Option, drop, filter, map, nat_le, pos, slice_index, unwrap_or, false}
 use Rattle.std.specs.List.{range_with_len}
 use Rattle.std.specs.Option.{option_map}
 use Rattle.armcaps_alt.specs.declared.named_number.Named.{Named}
 use Rattle.armcaps_alt.specs.declared.named_number.Named.TheVariants.{Cap, Given}
 use Rattle.armcaps_alt.specs.declared.table_entry.Entry.{Entry}
 use Rattle.armcaps_alt.specs.declared.table_place.Layout.{Layout}
-use Rattle.armcaps_alt.specs.Bytes.{half_in, signed_in}
+use Rattle.armcaps_image.specs.Bytes.{half_in, signed_in}
 use Rattle.armcaps_alt.specs.Names.{NameLists, number_named}
 
 -- the entry in the first twelve of these bytes, which stand at a place of the image; each offset counts from its own

@@ -1,5 +1,4 @@
 -- What the contracts of this crate cite, and the crate that patches images above it.
-pub mod Bytes
 pub mod Names
 pub mod Entries
 pub mod Words

@@ -1,8 +1,7 @@
 -- Why an entry is refused.
-use Rattle.std.specs.Prelude.{◌==◌, ◌+◌, ◌&&◌, ◌||◌, ℕ, ℤ, Bool, true, false, not, List, [], ◌∷◌, Option, Some, None, Result, Ok, Err, codes, find, if◌then◌else◌, int_rem, is_none, length, nat_le, pos, negsuc}
+use Rattle.std.specs.Prelude.{◌==◌, ◌+◌, ◌&&◌, ◌||◌, ℕ, Bool, true, false, not, List, [], ◌∷◌, Option, Some, None, Result, Ok, Err, codes, find, if◌then◌else◌, is_none, length, pos}
 use Rattle.std.specs.List.{list_any}
 use Rattle.std.specs.Option.{option_map, option_map_or, option_or}
-use Rattle.std.specs.Ordering.{int_eq}
 use Rattle.armcaps_insn.specs.declared.correction.FixRefused.{FixRefused}
 use Rattle.armcaps_insn.specs.declared.correction.FixRefused.TheVariants as refused
 use Rattle.armcaps_alt.specs.declared.callback_kind.CallbackKind.{CallbackKind}
@@ -14,15 +13,7 @@ use Rattle.armcaps_alt.specs.declared.table_place.Layout.{Layout}
 use Rattle.armcaps_alt.specs.Entries.{Features, entries_of, selection}
 use Rattle.armcaps_alt.specs.Names.{NameLists, callback_named}
 use Rattle.armcaps_alt.specs.Words.{replacement_words}
-
--- a multiple of four bytes
-abbrev pub is_aligned : ℤ → Bool
-is_aligned place = int_eq (int_rem place (pos 4)) (pos 0)
-
--- whether so many bytes from a place on are within an image of this length
-abbrev pub is_within : ℕ → ℤ → ℕ → Bool
-is_within size (pos place) len = nat_le (place + len) size
-is_within size (negsuc n) len = false
+use Rattle.armcaps_image.specs.Places.{is_aligned, is_within}
 
 -- Unaligned: the site, its length, or without a callback the replacement
 abbrev pub is_unaligned : Entry → Bool

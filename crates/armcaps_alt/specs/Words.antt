@@ -1,5 +1,5 @@
 -- What the words of a site become.
-use Rattle.std.specs.Prelude.{◌==◌, ◌+◌, ◌*◌, ◌-◌, ◌/◌, ◌%◌, ◌^◌, ◌<◌, ℕ, ℤ, Bool, List, Option, Some, None, Result, Ok, Err, if◌then◌else◌, map, pos, negsuc}
+use Rattle.std.specs.Prelude.{◌==◌, ◌+◌, ◌*◌, ◌/◌, ◌%◌, ◌^◌, ◌<◌, ℕ, List, Result, Ok, Err, if◌then◌else◌, map}
 use Rattle.std.specs.List.{range_with_len}
 use Rattle.std.specs.Option.{option_map_or}
 use Rattle.armcaps_insn.specs.declared.correction.FixRefused.{FixRefused}
@@ -9,7 +9,8 @@ use Rattle.armcaps_alt.specs.declared.callback_kind.CallbackKind.TheVariants as 
 use Rattle.armcaps_alt.specs.declared.smccc_conduit.Conduit.{Conduit}
 use Rattle.armcaps_alt.specs.declared.smccc_conduit.Conduit.TheVariants as conduit
 use Rattle.armcaps_alt.specs.declared.table_entry.Entry.{Entry}
-use Rattle.armcaps_alt.specs.Bytes.{word_in}
+use Rattle.armcaps_image.specs.Bytes.{word_in}
+use Rattle.armcaps_image.specs.Places.{as_place}
 use Rattle.armcaps_alt.specs.Entries.{Features}
 use Rattle.armcaps_alt.specs.Names.{callback_named}
 
@@ -36,16 +37,11 @@ callback_word_of callback.Conduit index ctr conduit.Hvc first orig = 0xd4000002
 callback_word_of callback.Conduit index ctr conduit.Smc first orig = 0xd4000003
 callback_word_of callback.Keep index ctr way first orig = orig
 
--- a place of an image; one before it is read as its begin, which no entry that is not refused has
-abbrev pub place_of : ℤ → ℕ
-place_of (pos n) = n
-place_of (negsuc n) = 0
-
 -- the replacement's word for the site's word at an index, in words from its begin, moved there
 abbrev pub replacement_word : List ℕ → Entry → ℕ → Result ℕ FixRefused
 replacement_word image entry index =
-    let from = place_of entry.repl in
-    let to = place_of entry.site + 4 * index in
+    let from = as_place entry.repl in
+    let to = as_place entry.site + 4 * index in
     corrected (word_in image (from + 4 * index)) (from + 4 * index) to from (from + entry.orig_len)
 
 -- the words of an entry's replacement, moved to its site
@@ -55,7 +51,7 @@ replacement_words image entry = map (replacement_word image entry) (range_with_l
 -- the callback's word for the site's word at an index
 abbrev pub callback_word_at : Features → List ℕ → Entry → CallbackKind → ℕ → ℕ
 callback_word_at features image entry kind index =
-    let site = place_of entry.site in
+    let site = as_place entry.site in
     let orig = word_in image (site + 4 * index) in
     callback_word_of kind index features.ctr features.names.conduit (word_in image site) orig
 
@@ -68,7 +64,7 @@ ok_or_word (Err refused) other = other
 -- word that can't move, which an entry that is not refused hasn't, leave the original word
 abbrev pub new_word : Features → List ℕ → Entry → ℕ → ℕ
 new_word features image entry index =
-    let orig = word_in image (place_of entry.site + 4 * index) in
+    let orig = word_in image (as_place entry.site + 4 * index) in
     let call = callback_named features.names entry.repl in
     if entry.callback
     then option_map_or (λ kind. callback_word_at features image entry kind index) call orig

@@ -1,8 +1,8 @@
 ghost use Rattle.std.specs.Prelude.{◌≡◌, ◌+◌, ◌+ℤ◌, ◌<◌, ◌<ℤ◌, ◌≤◌, ◌≤ℤ◌, ◌^◌, length, neg_ℤ, pos};
-ghost use Rattle.armcaps_alt.specs.Bytes.{half_in, signed_in, word_in};
+ghost use Rattle.armcaps_image.specs.Bytes.{half_in, signed_in};
 ghost use Rattle.armcaps_alt.specs.Entries.{entry_from};
 
-use byteorder::{ByteOrder, LittleEndian};
+use armcaps_image::{half, signed};
 
 /// An entry of the table of alternatives (Linux, arch/arm64/include/asm/alternative.h, `struct alt_instr`).
 ///
@@ -51,30 +51,4 @@ fn target(place: u64, offset: i64) -> i64
     ensures { result ≡ pos place +ℤ offset }
 {
     place as i64 + offset
-}
-
-// The signed number in the four bytes at a place.
-fn signed(bytes: &[u8], place: usize) -> i64
-    requires { place + 4 ≤ length bytes.now }
-    ensures value { result ≡ signed_in bytes.now place }
-    ensures low { neg_ℤ (pos (2 ^ 31)) ≤ℤ result }
-    ensures high { result <ℤ pos (2 ^ 31) }
-{
-    word(bytes, place).cast_signed() as i64
-}
-
-// The number in the four bytes at a place.
-fn word(bytes: &[u8], place: usize) -> u32
-    requires { place + 4 ≤ length bytes.now }
-    ensures { result ≡ word_in bytes.now place }
-{
-    LittleEndian::read_u32(&bytes[place..])
-}
-
-// The number in the two bytes at a place.
-fn half(bytes: &[u8], place: usize) -> u16
-    requires { place + 2 ≤ length bytes.now }
-    ensures { result ≡ half_in bytes.now place }
-{
-    LittleEndian::read_u16(&bytes[place..])
 }

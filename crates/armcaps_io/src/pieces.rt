@@ -25,6 +25,7 @@ pub trait Pieces {
     fn fill(&self, from: usize, buffer: &mut [u8])
         requires begins { from % 4096 ≡ 0 }
         requires within { from + length buffer.old ≤ size self.now }
+        requires short { length buffer.old ≤ 4096 }
         requires whole { from + length buffer.old < size self.now → length buffer.old ≡ 4096 }
         ensures { (j : ℕ) → j < length buffer.new → slice_index buffer.new j ≡ byte self.now (from + j) };
 }
@@ -60,6 +61,7 @@ fn send_piece<T: Pieces, O: Sink>(
 ) -> Result<(), WriteFault>
     requires begins { from % 4096 ≡ 0 }
     requires within { from + length buffer.old ≤ T.size text.now }
+    requires short { length buffer.old ≤ 4096 }
     requires whole { from + length buffer.old < T.size text.now → length buffer.old ≡ 4096 }
     ensures whole { OnOk result
         (Appends (O.held sink.old) (O.held sink.new) (bytes_from (T.byte text.now) from (length buffer.old))) }

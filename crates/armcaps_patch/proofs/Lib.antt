@@ -3,6 +3,5 @@ pub mod Keeping
 pub mod Moving
 pub mod Planned
 pub mod Refusing
-pub mod Sent
 pub mod Stamps
 pub mod Standing

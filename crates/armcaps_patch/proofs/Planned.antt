@@ -2,7 +2,9 @@
 use Rattle.std.proofs.Common.{◌≡◌, ◌+◌, ◌-◌, ◌*◌, ◌/◌, ◌%◌, ◌<◌, ◌≤◌, ◌∷◌, ℕ, Bool, List, None, Some, [], arith, false, get_or, length, refl, suc, true}
 use Rattle.std.specs.List.{All, slice_index}
 use Rattle.std.proofs.lemmas.Bool.Decides.{nat_tests}
-use Rattle.armcaps_alt.specs.Patched.{byte_of, last_that}
+use Rattle.armcaps_image.specs.Bytes.{byte_of}
+use Rattle.armcaps_image.specs.Last.{last_that}
+use Rattle.armcaps_image.proofs.Last.{last_that-none, last_that-same}
 use Rattle.armcaps_patch.specs.declared.kept.Kept.{Kept}
 use Rattle.armcaps_patch.specs.Kept.{IsKept, Planned, kept_covers, planned_byte, planned_word}
 
@@ -13,17 +15,9 @@ covers_word size kept q i is aligned small =
     let len = is.len_aligned in
     grind (arith, nat_tests)
 
--- two tests that agree on a list have the same last item
-last_that_same : {X : Type 0} (one other : X → Bool) (xs : List X) → ((k : ℕ) (d : X) → k < length xs → one (get_or xs k d) ≡ other (get_or xs k d)) → last_that one xs ≡ last_that other xs
-last_that_same one other [] same = refl
-last_that_same one other (x ∷ xs) same =
-    let first = same 0 x (omega arith) in
-    let rest = last_that_same one other xs (λ k d within. same (suc k) d (omega arith)) in
-    rw (rest, first) refl
-
 module _ (plan : Planned) (image : List ℕ) (q i : ℕ) (kept : All (IsKept (length image)) plan.kept) (aligned : q % 4 ≡ 0) (small : i < 4) where
   last_same : last_that (kept_covers (q + i)) plan.kept ≡ last_that (kept_covers q) plan.kept
-  last_same = last_that_same (kept_covers (q + i)) (kept_covers q) plan.kept (λ k d within. covers_word (length image) (get_or plan.kept k d) q i (kept k d within) aligned small)
+  last_same = last_that-same (kept_covers (q + i)) (kept_covers q) plan.kept (λ k d within. covers_word (length image) (get_or plan.kept k d) q i (kept k d within) aligned small)
 
   -- a byte that no site covers is the original's
   pub byte_kept : last_that (kept_covers q) plan.kept ≡ None → planned_byte plan image (q + i) ≡ slice_index image (q + i)
@@ -48,17 +42,10 @@ past_covers size kept place is past =
     let end : kept.site + kept.len ≤ place = omega arith in
     grind (arith, nat_tests)
 
-none_covers : (test : Kept → Bool) (xs : List Kept) → ((k : ℕ) (d : Kept) → k < length xs → test (get_or xs k d) ≡ false) → last_that test xs ≡ None
-none_covers test [] fail = refl
-none_covers test (x ∷ xs) fail =
-    let first = fail 0 x (omega arith) in
-    let rest = none_covers test xs (λ k d within. fail (suc k) d (omega arith)) in
-    rw (rest, first) refl
-
 -- a byte from there on is the original's
 pub byte_past : (plan : Planned) (image : List ℕ) (place : ℕ) → All (IsKept (length image)) plan.kept → length image / 4 * 4 ≤ place → planned_byte plan image place ≡ slice_index image place
 byte_past plan image place kept past =
-    let none = none_covers (kept_covers place) plan.kept (λ k d within. past_covers (length image) (get_or plan.kept k d) place (kept k d within) past) in
+    let none = last_that-none (kept_covers place) plan.kept (λ k d within. past_covers (length image) (get_or plan.kept k d) place (kept k d within) past) in
     rw none refl
 
 -- a byte that no site covers is the original's

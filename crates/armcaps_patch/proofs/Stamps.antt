@@ -10,7 +10,8 @@ use Rattle.std.proofs.lemmas.Bool.{cases_Bool}
 use Rattle.std.proofs.lemmas.List.Sorted.{All-permutation, IsPermutation-sym}
 use Rattle.armcaps_patch.specs.declared.site.Site.{Site}
 use Rattle.armcaps_patch.specs.Index.{IsSite, Tells, last_at, stamp_at}
-use Rattle.armcaps_alt.specs.Patched.{last_that}
+use Rattle.armcaps_image.specs.Last.{last_that}
+use Rattle.armcaps_image.proofs.Last.{last_that-passes}
 use Rattle.armcaps_patch.specs.declared.kept.Kept.{Kept}
 use Rattle.armcaps_patch.specs.Kept.{IsKept, IsPlan, kept_covers, site_of, sites_of}
 
@@ -115,17 +116,6 @@ option_cases : {X : Type 0} (o : Option X) → (o ≡ None) ⊎ ((x : X) × (o �
 option_cases None = inl refl
 option_cases (Some x) = inr (x, refl)
 
--- the last that passes passes
-pub last_that_passes : {X : Type 0} (test : X → Bool) (xs : List X) (x : X) → last_that test xs ≡ Some x → test x ≡ true
-last_that_passes test [] x found = cc
-last_that_passes {X} test (y ∷ ys) x found = elim (option_cases (last_that test ys)) [
-  | inr (z, later) ↦ (let same : Some z ≡ Some x = rw later at found in last_that_passes test ys x (later ∙ same))
-  | inl none ↦ elim (cases_Bool (test y)) [
-    | inl here ↦ (let same : Some y ≡ Some x = rw (none, here) at found in let is : y ≡ x = cc in subst (λ (z : X). test z ≡ true) is here)
-    | inr past ↦ (let same : None ≡ Some x = rw (none, past) at found in cc)
-  ]
-]
-
 -- the item before a stamp's number is the last that passes
 pub stamped : {X : Type 0} (test : X → Bool) (stamp number : ℕ) (xs : List X) (d : X) → Tells test stamp 0 xs → stamp ≡ suc number → (last_that test xs ≡ Some (get_or xs number d)) × (test (get_or xs number d) ≡ true) × (number < length xs)
 stamped {X} test stamp number xs d tells is = elim (option_cases (last_that test xs)) [
@@ -135,7 +125,7 @@ stamped {X} test stamp number xs d tells is = elim (option_cases (last_that test
       let same : told.0 ≡ number = omega (arith, told.1.0) in
       let at : slice_get xs number ≡ Some x = subst (λ (k : ℕ). slice_get xs k ≡ Some x) same told.1.1 in
       let it : get_or xs number d ≡ x = get_or_from_slice_get xs number x d at in
-      (found ∙ ap (λ (y : X). Some y) (sym it), subst (λ (y : X). test y ≡ true) (sym it) (last_that_passes test xs x found), slice_get_within xs number x at)
+      (found ∙ ap (λ (y : X). Some y) (sym it), subst (λ (y : X). test y ≡ true) (sym it) (last_that-passes test xs x found), slice_get_within xs number x at)
 ]
 
 -- the stamp 0 tells that none passes

@@ -1,6 +1,6 @@
 -- The index of a plan: for each place of a word, the last kept entry whose site covers it.
 use Rattle.std.specs.Prelude.{◌≡◌, ◌+◌, ◌*◌, ◌%◌, ◌^◌, ◌<◌, ◌≤◌, ◌&&◌, ℕ, Bool, List, [], ◌∷◌, if◌then◌else◌, MatchOption, Some, suc, max, slice_get, nat_le, nat_lt}
-use Rattle.armcaps_alt.specs.Patched.{last_that}
+use Rattle.armcaps_image.specs.Last.{last_that}
 use Rattle.armcaps_patch.specs.declared.site.Site.{Site}
 
 -- whether a site covers the byte at a place

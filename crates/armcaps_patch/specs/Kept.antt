@@ -11,12 +11,13 @@ use Rattle.armcaps_alt.specs.declared.callback_kind.CallbackKind.TheVariants as 
 use Rattle.armcaps_alt.specs.declared.smccc_conduit.Conduit.{Conduit}
 use Rattle.armcaps_alt.specs.declared.table_entry.Entry.{Entry}
 use Rattle.armcaps_alt.specs.declared.table_place.Layout.{Layout}
-use Rattle.armcaps_alt.specs.Bytes.{word_in}
+use Rattle.armcaps_image.specs.Bytes.{byte_of, word_in}
+use Rattle.armcaps_image.specs.Last.{last_that}
+use Rattle.armcaps_image.specs.Places.{as_place}
 use Rattle.armcaps_alt.specs.Entries.{Features, selected_of}
 use Rattle.armcaps_alt.specs.Names.{NameLists, callback_named}
-use Rattle.armcaps_alt.specs.Patched.{byte_of, last_that}
 use Rattle.armcaps_alt.specs.Refusals.{first_refusal}
-use Rattle.armcaps_alt.specs.Words.{IsIndex, callback_word_of, ok_or_word, place_of}
+use Rattle.armcaps_alt.specs.Words.{IsIndex, callback_word_of, ok_or_word}
 use Rattle.armcaps_patch.specs.declared.kept.Kept.{Kept}
 use Rattle.armcaps_patch.specs.declared.site.Site.{Site}
 
@@ -24,8 +25,8 @@ use Rattle.armcaps_patch.specs.declared.site.Site.{Site}
 -- callback that isn't named, which an entry that is not refused hasn't, keeps the words
 abbrev pub kept_of : NameLists → Entry → Kept
 kept_of names entry = record {
-  site = place_of entry.site;
-  repl = if entry.callback then 0 else place_of entry.repl;
+  site = as_place entry.site;
+  repl = if entry.callback then 0 else as_place entry.repl;
   len = entry.orig_len;
   callback = if entry.callback then Some (unwrap_or (callback_named names entry.repl) callback.Keep) else None;
 }

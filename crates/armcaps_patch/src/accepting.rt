@@ -1,14 +1,15 @@
 //! What is kept of a selected entry, or why it is refused.
 
 ghost use Rattle.std.specs.Prelude.{◌≡◌, ◌+◌, ◌≤◌, ◌^◌, nat_le, true, false, None, Some, IfErr, IfOk, if◌then◌else◌, length};
-ghost use Rattle.armcaps_alt.specs.Refusals.{first_kind, has_other_length, is_unaligned, is_within, makes_other_length, tests_of};
-ghost use Rattle.armcaps_alt.specs.Words.{place_of};
+ghost use Rattle.armcaps_image.specs.Places.{as_place, is_within};
+ghost use Rattle.armcaps_alt.specs.Refusals.{first_kind, has_other_length, is_unaligned, makes_other_length, tests_of};
 ghost use Rattle.armcaps_patch.specs.Replaced.{word_tests};
 ghost use Rattle.armcaps_patch.specs.Kept.{IsKept, kept_of};
 
 use crate::kept::Kept;
 use crate::words::moved;
 use armcaps_alt::{CallbackKind, Entry, Names, PatchKind};
+use armcaps_image::place_within;
 use armcaps_insn::FixRefused;
 
 // What is kept of a selected entry, or the least kind that holds of it.
@@ -39,7 +40,7 @@ pub(crate) fn accept(entry: &Entry, image: &[u8], names: &Names) -> Result<Kept,
 fn accept_callback(entry: &Entry, site: u32, image: &[u8], names: &Names) -> Result<Kept, PatchKind>
     requires callback { entry.now.callback ≡ true }
     requires aligned { is_unaligned entry.now ≡ false }
-    requires site { site ≡ place_of entry.now.site }
+    requires site { site ≡ as_place entry.now.site }
     requires within { is_within (length image.now) entry.now.site entry.now.orig_len ≡ true }
     requires length { has_other_length entry.now ≡ false }
     ensures refused { IfErr result (λ kind. first_kind (tests_of names.now image.now entry.now) ≡ Some kind) }
@@ -71,7 +72,7 @@ fn accept_replacement(
     requires callback { entry.now.callback ≡ false }
     requires size { length image.now ≤ 2 ^ 29 }
     requires aligned { is_unaligned entry.now ≡ false }
-    requires site { site ≡ place_of entry.now.site }
+    requires site { site ≡ as_place entry.now.site }
     requires within { is_within (length image.now) entry.now.site entry.now.orig_len ≡ true }
     requires length { has_other_length entry.now ≡ false }
     ensures refused { IfErr result (λ kind. first_kind (tests_of names.now image.now entry.now) ≡ Some kind) }
@@ -120,29 +121,6 @@ fn makes_other_length(kind: CallbackKind, len: u8) -> bool
         CallbackKind::FinalCtr => len != 16,
         CallbackKind::Conduit => len != 4,
         CallbackKind::Nops | CallbackKind::Keep => false,
-    }
-}
-
-// A place from which so many bytes are within an image of this size.
-fn place_within(size: usize, place: i64, len: u8) -> Option<u32>
-    requires { size ≤ 2 ^ 29 }
-    ensures { result ≡ (if is_within size place len then Some (place_of place) else None) }
-{
-    match u64::try_from(place) {
-        Ok(place) => place_below(size, place, len),
-        Err(_) => None,
-    }
-}
-
-// The same of a place that isn't before the image.
-fn place_below(size: usize, place: u64, len: u8) -> Option<u32>
-    requires { size ≤ 2 ^ 29 }
-    ensures { result ≡ (if nat_le (place + len) size then Some place else None) }
-{
-    if place <= size as u64 && place + u64::from(len) <= size as u64 {
-        Some(place as u32)
-    } else {
-        None
     }
 }
 

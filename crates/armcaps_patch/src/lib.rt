@@ -6,6 +6,7 @@ mod accepting;
 mod checking;
 mod kept;
 mod nearby;
+mod patched;
 mod pieces;
 mod planning;
 mod refused;

@@ -2,13 +2,13 @@
 
 ghost use Rattle.std.specs.Prelude.{◌≡◌, ◌+◌, ◌-◌, ◌*◌, ◌%◌, ◌<◌, ◌≤◌, ◌^◌, ◌&&◌, ℕ, if◌then◌else◌, length, nat_le, nat_lt, slice_index};
 ghost use Rattle.std.specs.List.{All};
-ghost use Rattle.armcaps_alt.specs.Patched.{byte_of};
 ghost use Rattle.armcaps_patch.specs.Index.{Tells};
 ghost use Rattle.armcaps_patch.specs.Kept.{IsKept, kept_covers, planned_byte, planned_word};
 
 use crate::kept::Kept;
-use crate::words::{new_word, word};
+use crate::words::new_word;
 use armcaps_alt::Conduit;
+use armcaps_image::{put_word, word};
 
 // The word at a place by the stamp on it: the last kept entry that covers it is the one before the stamp's number.
 fn stamped_word(
@@ -92,16 +92,4 @@ fn put_stamped(
             stamped_word(kept, stamp, from + 4 * k as u32, image, ctr, conduit),
         );
     }
-}
-
-// Puts a word at a place, its lowest byte first.
-fn put_word(buffer: &mut [u8], at: usize, word: u32)
-    requires { at + 4 ≤ length buffer.old }
-    ensures { (j : ℕ) → slice_index buffer.new j
-        ≡ (if nat_le at j && nat_lt j (at + 4) then byte_of word (j - at) else slice_index buffer.old j) }
-{
-    buffer[at] = (word % 256) as u8;
-    buffer[at + 1] = (word / 256 % 256) as u8;
-    buffer[at + 2] = (word / 65536 % 256) as u8;
-    buffer[at + 3] = (word / 16777216) as u8;
 }

@@ -13,11 +13,12 @@ ghost use Rattle.armcaps_patch.specs.Kept.{IsKept, StandsFor, kept_covers, plann
 
 use crate::kept::Kept;
 use crate::nearby::near;
+use crate::patched::Patched;
 use crate::pieces::put_words;
 use crate::site::Site;
 use crate::slots::mark_all;
 use armcaps_alt::Conduit;
-use armcaps_io::{Sink, WriteFault, write_whole};
+use armcaps_io::{Sink, WriteFault, send_all};
 use std::alloc::{AllocError, Global};
 use std::marker::Model;
 
@@ -99,69 +100,14 @@ impl Plan {
         ensures never_falls { O.faults sink.old ≤ O.faults sink.new }
         ensures cause { OnErr result (Rose (O.faults sink.old) (O.faults sink.new)) }
     {
-        self.send_all(image, sink)
+        send_all(&Patched { plan: self, image }, sink)
     }
+}
 
-    // Sends the image that the plan makes, piece after piece.
-    fn send_all<O: Sink>(&self, image: &[u8], sink: &mut O) -> Result<(), WriteFault>
-        requires { length image.now ≡ self.now.size }
-        ensures whole { OnOk result (Appends (O.held sink.old) (O.held sink.new) (planned_image self.now image.now)) }
-        ensures prefix { OnErr result
-            (AppendsPrefix (O.held sink.old) (O.held sink.new) (planned_image self.now image.now)) }
-        ensures never_falls { O.faults sink.old ≤ O.faults sink.new }
-        ensures cause { OnErr result (Rose (O.faults sink.old) (O.faults sink.new)) }
-    {
-        let mut buffer = [0u8; 4096];
-        let mut slots = [0u32; 1024];
-        let mut place = 0;
-        while place < image.len() {
-            let count = (image.len() - place).min(4096);
-            self.send(
-                image,
-                place,
-                &mut buffer[..count],
-                &mut slots[..count / 4],
-                sink,
-            )?;
-            place += count;
-        }
-        Ok(())
-    }
-
-    // Sends the bytes of one piece, as many as the buffer has, from a place on. A buffer that isn't a multiple of 4 bytes
-    // long goes to the image's end. A piece that no site comes near is sent from the image itself.
-    fn send<O: Sink>(
-        &self,
-        image: &[u8],
-        from: usize,
-        buffer: &mut [u8],
-        slots: &mut [u32],
-        sink: &mut O,
-    ) -> Result<(), WriteFault>
-        requires size { length image.now ≡ self.now.size }
-        requires aligned { from % 4 ≡ 0 }
-        requires within { from + length buffer.old ≤ length image.now }
-        requires slots { length slots.old ≡ length buffer.old / 4 }
-        requires ends { from + length buffer.old < length image.now → length buffer.old % 4 ≡ 0 }
-        ensures whole { OnOk result (Appends (O.held sink.old) (O.held sink.new)
-            (map (planned_byte self.now image.now) (range_with_len from (length buffer.old)))) }
-        ensures prefix { OnErr result (AppendsPrefix (O.held sink.old) (O.held sink.new)
-            (map (planned_byte self.now image.now) (range_with_len from (length buffer.old)))) }
-        ensures never_falls { O.faults sink.old ≤ O.faults sink.new }
-        ensures cause { OnErr result (Rose (O.faults sink.old) (O.faults sink.new)) }
-    {
-        let to = from + buffer.len();
-        let nearby = self.nearby(from, to);
-        if nearby.is_empty() {
-            return write_whole(sink, &image[from..to]);
-        }
-        self.fill(image, from, nearby, buffer, slots);
-        write_whole(sink, buffer)
-    }
-
+impl Plan {
     // The sites that can cover places from one on to another: the greatest stamp of theirs on a place tells the last kept
     // entry that covers it.
-    fn nearby(&self, from: usize, to: usize) -> &[Site]
+    pub(crate) fn nearby(&self, from: usize, to: usize) -> &[Site]
         requires order { from ≤ to }
         requires within { to ≤ self.now.size }
         ensures small { self.now.size ≤ 2 ^ 29 }
@@ -173,7 +119,14 @@ impl Plan {
     }
 
     // Fills a buffer with the bytes of the patched image from a place on, by the sites that can cover them.
-    fn fill(&self, image: &[u8], from: usize, nearby: &[Site], buffer: &mut [u8], slots: &mut [u32])
+    pub(crate) fn fill(
+        &self,
+        image: &[u8],
+        from: usize,
+        nearby: &[Site],
+        buffer: &mut [u8],
+        slots: &mut [u32],
+    )
         requires size { length image.now ≡ self.now.size }
         requires small { length image.now ≤ 2 ^ 29 }
         requires aligned { from % 4 ≡ 0 }

@@ -1,22 +1,13 @@
 //! The words of an image, and what they become.
 
-ghost use Rattle.std.specs.Prelude.{◌≡◌, ◌+◌, ◌*◌, ◌<◌, ◌≤◌, ◌^◌, None, length};
-ghost use Rattle.armcaps_alt.specs.Bytes.{word_in};
+ghost use Rattle.std.specs.Prelude.{◌≡◌, ◌*◌, ◌<◌, ◌≤◌, ◌^◌, None, length};
 ghost use Rattle.armcaps_alt.specs.Words.{ok_or_word};
 ghost use Rattle.armcaps_patch.specs.Kept.{IsKept, kept_word, moved_word};
 
 use crate::kept::Kept;
 use armcaps_alt::{Conduit, callback_word};
+use armcaps_image::word;
 use armcaps_insn::{FixRefused, correct};
-use byteorder::{ByteOrder, LittleEndian};
-
-// The word at a place.
-pub(crate) fn word(image: &[u8], place: usize) -> u32
-    requires { place + 4 ≤ length image.now }
-    ensures { result ≡ word_in image.now place }
-{
-    LittleEndian::read_u32(&image[place..])
-}
 
 // The new word of a kept entry's site at an index, in words from its begin.
 pub(crate) fn new_word(kept: &Kept, index: u32, image: &[u8], ctr: u64, conduit: Conduit) -> u32

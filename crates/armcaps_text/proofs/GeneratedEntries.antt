@@ -9,10 +9,11 @@ use Rattle.std.proofs.lemmas.Int.{ints}
 use Rattle.std.proofs.lemmas.List.{get_or-map, length-map, length-replicate}
 use Rattle.std.proofs.lemmas.List.FromFn.{get_or-enumerate_from, length-enumerate_from}
 use Rattle.std.proofs.lemmas.Nat.{mod_below}
-use Rattle.armcaps_alt.specs.Bytes.{half_in, signed_in, word_in}
+use Rattle.armcaps_image.specs.Bytes.{half_in, signed_in, word_in}
+use Rattle.armcaps_image.specs.Places.{is_aligned, is_within}
 use Rattle.armcaps_alt.specs.Entries.{Features, entry_at, entry_from}
 use Rattle.armcaps_alt.specs.Names.{NameLists, number_named}
-use Rattle.armcaps_alt.specs.Refusals.{first_kind, first_refusal, first_refusal_from, is_aligned, is_literal, is_out_of_range, is_within, refusal_by, refusal_of}
+use Rattle.armcaps_alt.specs.Refusals.{first_kind, first_refusal, first_refusal_from, is_literal, is_out_of_range, refusal_by, refusal_of}
 use Rattle.armcaps_alt.specs.Words.{replacement_word}
 use Rattle.armcaps_alt.specs.declared.named_number.Named.{Named}
 use Rattle.armcaps_alt.specs.declared.named_number.Named.TheVariants.{Cap}

@@ -5,10 +5,10 @@ use Rattle.std.specs.List.{All, enumerate_from, filter, range_with_len}
 use Rattle.std.proofs.lemmas.Bool.Decides.{nat_tests}
 use Rattle.std.proofs.lemmas.Int.{ints}
 use Rattle.std.proofs.lemmas.List.FromFn.{get_or-enumerate_from, length-enumerate_from}
-use Rattle.armcaps_alt.specs.Bytes.{word_in}
+use Rattle.armcaps_image.specs.Bytes.{word_in}
+use Rattle.armcaps_image.specs.Places.{as_place}
 use Rattle.armcaps_alt.specs.Entries.{Features, entry_at, entry_from, is_selected, selected_of}
 use Rattle.armcaps_alt.specs.Patched.{covers}
-use Rattle.armcaps_alt.specs.Words.{place_of}
 use Rattle.armcaps_alt.specs.declared.table_entry.Entry.{Entry}
 use Rattle.armcaps_alt.specs.declared.table_place.Layout.{Layout}
 use Rattle.armcaps_patch.specs.Counting.{words_of_sites}
@@ -51,12 +51,12 @@ word_count entry = entry.orig_len / 4
 
 lies_at : (size from : ℕ) (entry : Entry) → IsWithinEight from entry → from + 8 ≤ size → LiesAt covers_word word_count size from entry
 lies_at size from entry is inside =
-    let place : place_of entry.site ≡ 4 * from = ap place_of is.site in
+    let place : as_place entry.site ≡ 4 * from = ap as_place is.site in
     record {
       within = omega (arith, is.len, is.few);
-      before = λ word early. not_before (place_of entry.site) entry.orig_len from word place early;
-      inside = λ word start end. covered (place_of entry.site) entry.orig_len from is.words word place is.len start end;
-      after = λ word late. not_after (place_of entry.site) entry.orig_len from is.words word place is.len late;
+      before = λ word early. not_before (as_place entry.site) entry.orig_len from word place early;
+      inside = λ word start end. covered (as_place entry.site) entry.orig_len from is.words word place is.len start end;
+      after = λ word late. not_after (as_place entry.site) entry.orig_len from is.words word place is.len late;
     }
 
 -- one more before others, if it is kept

@@ -2,7 +2,7 @@
 use Rattle.std.specs.Prelude.{ℕ, ◌==◌, ◌*◌, ◌/◌, ◌++◌, Bool, true, false, not, List, codes, count_by, length, sum_by}
 use Rattle.std.specs.Fmt.{decimal}
 use Rattle.std.specs.List.{list_any, range_with_len}
-use Rattle.armcaps_alt.specs.Bytes.{word_in}
+use Rattle.armcaps_image.specs.Bytes.{word_in}
 use Rattle.armcaps_alt.specs.Entries.{Features, selected_of}
 use Rattle.armcaps_alt.specs.Patched.{covers, patched_image}
 use Rattle.armcaps_alt.specs.declared.table_entry.Entry.{Entry}

@@ -1,7 +1,7 @@
 //! `demo SEED CORES`: what comes of a machine and its image that are made from a number.
 
 ghost use Rattle.std.specs.Prelude.{◌≡◌, ◌+◌, ◌*◌, ◌≤◌, ◌^◌, [], cond, Some, None, Ok, true, IfOk, length, string_bytes};
-ghost use Rattle.armcaps_alt.specs.Bytes.{word_in};
+ghost use Rattle.armcaps_image.specs.Bytes.{word_in};
 ghost use Rattle.armcaps_alt.specs.Entries.{Features, selected_of};
 ghost use Rattle.armcaps_alt.specs.Patched.{patched_image};
 ghost use Rattle.armcaps_alt.specs.Refusals.{first_refusal};

@@ -1,6 +1,6 @@
 use Rattle.std.proofs.Common.{◌≡◌, ◌≤◌, ◌*◌, ◌^◌, ℕ}
 use Rattle.std.specs.List.{count_by, range_with_len, sum_by}
-use Rattle.armcaps_alt.specs.Bytes.{word_in}
+use Rattle.armcaps_image.specs.Bytes.{word_in}
 use Rattle.armcaps_top.specs.Demo.{is_changed}
 use Rattle.armcaps_top.proofs.commands.demo.compare.Given as goal
 
