@@ -5,7 +5,7 @@
 ghost use Rattle.std.specs.Prelude.{◌≡◌, [], false, map, string_bytes};
 ghost use Rattle.std.specs.Process.{exit_status};
 ghost use Rattle.armcaps_top.specs.Commands.{command_of};
-ghost use Rattle.armcaps_top.specs.Run.{Promises, reads_input};
+ghost use Rattle.armcaps_top.specs.Run.{Promises, change, reads_input};
 
 use armcaps_boot::Boot;
 use armcaps_io::{RealSink, RealSource, Sink, Source};
@@ -25,11 +25,8 @@ fn exit<S: Source, O: Sink, E: Sink>(
 ) -> ExitCode
     requires { machines.old.items ≡ [] }
     ensures untouched { reads_input (command_of (map string_bytes words.now)) ≡ false → input.new ≡ input.old }
-    ensures promises { Promises (map string_bytes words.now)
-        (record { old = S.left input.old; new = S.left input.new; before = S.faults input.old; now = S.faults input.new })
-        (record { old = O.held out.old; new = O.held out.new; before = O.faults out.old; now = O.faults out.new })
-        (record { old = E.held err.old; new = E.held err.new; before = E.faults err.old; now = E.faults err.new })
-        machines.new.items (exit_status result) }
+    ensures promises { Promises (command_of (map string_bytes words.now)) (change S.left S.faults input.old input.new)
+        (change O.held O.faults out.old out.new) (change E.held E.faults err.old err.new) machines.new.items (exit_status result) }
 {
     ExitCode::from(run(alloc, words, input, out, err, machines))
 }

@@ -1,5 +1,5 @@
 -- A document, from its reading to what is written of it.
-use Rattle.std.proofs.Common.{◌≡◌, ℕ, ◌<◌, Bool, true, cond, List, [], ◌∷◌, ◌++◌, length, Option, Some, None, refl, sym, ap, subst, ◌∙◌}
+use Rattle.std.proofs.Common.{◌≡◌, ◌≢◌, ℕ, ◌<◌, Bool, true, cond, List, [], ◌∷◌, ◌++◌, length, Option, Some, None, refl, sym, ap, subst, ◌∙◌}
 use Rattle.std.specs.Prelude.{Result, Ok, Err, IfOk, reverse}
 use Rattle.std.specs.List.{flat_map}
 use Rattle.armcaps_board.specs.declared.event.Event.{Event}
@@ -14,11 +14,15 @@ use Rattle.armcaps_board.specs.Steps.{events_of, history}
 use Rattle.armcaps_boot.specs.World.{World}
 use Rattle.armcaps_text.specs.Document.{Reading}
 use Rattle.armcaps_text.specs.Sound.{IsSound}
+use Rattle.armcaps_boot.specs.Facts.{Facts}
+use Rattle.armcaps_top.specs.Answer.{board_of, unless_stopped}
 use Rattle.armcaps_top.specs.Bringing.{IsAt, IsBegun, board_in}
-use Rattle.armcaps_top.specs.Inside.{LeavesAfter}
-use Rattle.armcaps_top.specs.Output.{board_of, output_after, output_of, unless_stopped}
-use Rattle.armcaps_top.specs.declared.commands.Query.{Query}
+use Rattle.armcaps_top.specs.Inside.{IsHaltOf, IsHalted, IsNotUp, IsThrough, IsUp}
 use Rattle.armcaps_top.specs.declared.ending.Ending.{Ending}
+use Rattle.armcaps_top.specs.declared.ending.Ending.TheVariants.{Done, ReadFault, WriteFault, Memory, NoOutput}
+use Rattle.armcaps_top.specs.declared.reason.Reason.{Reason}
+use Rattle.armcaps_top.specs.declared.reason.Reason.TheVariants.{Panicked}
+use Rattle.armcaps_top.proofs.Outputs.{are_settled, findings_are, is_finalised, whole_after}
 
 pub history_is : (reading : Reading) (events : List Event) → events ≡ flat_map events_of reading.steps → reverse events ≡ history reading.steps
 unfolding history
@@ -48,18 +52,6 @@ completes reading events world sound events_are is =
 pub is_board : (reading : Reading) → IsSound reading → IsBoard (board_of reading)
 is_board reading sound = record { within = sound.boot; few = sound.cores; fit = sound.fit; plain_ctr = sound.plain_ctr }
 
--- where something is written, no step stopped the machine
-none_stopped : (halt : Option Halt) (output : Result (List ℕ) Ending) (text : List ℕ) → unless_stopped halt output ≡ Ok text → halt ≡ None
-none_stopped None output text is = refl
-none_stopped (Some halt) output text is = cc
-
-pub goes_through : (query : Query) (board : Board) (steps : List Event) (text : List ℕ) → output_after query board steps ≡ Ok text → halt_of board steps ≡ None
-goes_through query board steps text is = none_stopped (halt_of board steps) (output_of query board steps) text is
-
-pub if_ok : {X : Type 0} (result : Result X Ending) (P Q : X → Type 0) → ((x : X) → P x → Q x) → IfOk result P → IfOk result Q
-if_ok (Ok x) P Q law holds = law x holds
-if_ok (Err ending) P Q law holds = tt
-
 -- the same steps as a slice
 pub begun_on : {reading : Reading} {events slice : List Event} {world : World} → IsBegun reading events world → slice ≡ events → IsBegun reading slice world
 begun_on {reading} {events} {slice} {world} begun is = subst (λ (steps : List Event). IsBegun reading steps world) (sym is) begun
@@ -75,11 +67,48 @@ made_of {reading} {events} {world} new begun after =
     subst (λ (steps : List Event). IsAfter (board_of reading) steps new) (carried steps_made begun)
     (subst (λ (board : Board). IsAfter board (steps_made (board_in world) (reverse events)) new) begun.board after)
 
--- one machine where there was none
-pub pushed : (old new : List World) (world : World) (ok : Bool) → new ≡ cond ok (old ++ world ∷ []) old → ok ≡ true → old ≡ [] → new ≡ world ∷ []
-pushed old new world ok is done none = is ∙ rw (done, none) refl
+-- a machine that was brought up whole
+pub through : {reading : Reading} {events : List Event} {world : World} (new : World) (halt : Option Halt) → IsBegun reading events world
+    → IsAfter (board_in world) (steps_made (board_in world) (reverse events)) new → halt ≡ halt_of (board_in world) (reverse events) → halt ≡ None → Facts new
+    → IsThrough reading new
+through {reading} {events} {world} new halt begun after is none facts =
+    let board : Board = board_of reading in
+    let steps : List Event = history reading.steps in
+    let going : halt_of board steps ≡ None = sym (carried halt_of begun) ∙ sym is ∙ none in
+    let made : IsAfter board (steps_made board steps) new = made_of new begun after in
+    let whole : IsAfter board steps new = whole_after board steps new going made in
+    let complete : is_complete (length board.cores) steps ≡ true =
+    subst (λ (s : List Event). is_complete (length board.cores) s ≡ true) begun.steps
+    (subst (λ (b : Board). is_complete (length b.cores) (reverse events) ≡ true) begun.board begun.complete) in record {
+      machine = made;
+      going = going;
+      safe = begun.safe going;
+      found = findings_are board steps new whole;
+      final = is_finalised board steps new whole complete;
+      settled = are_settled board steps new facts whole complete going;
+    }
 
-pub leaves : {reading : Reading} {events : List Event} {world : World} (new : World) (machines : List World) → IsBegun reading events world → machines ≡ new ∷ []
-    → IsAfter (board_in world) (steps_made (board_in world) (reverse events)) new → LeavesAfter (board_of reading) (history reading.steps) machines
-leaves {reading} {events} {world} new machines begun one after =
-    subst (λ (all : List World). LeavesAfter (board_of reading) (history reading.steps) all) (sym one) (made_of new begun after)
+-- a machine that is left after those that were there
+pub up : {reading : Reading} {events : List Event} {world : World} (new : World) (halt : Option Halt) (before after : List World) → IsBegun reading events world
+    → IsAfter (board_in world) (steps_made (board_in world) (reverse events)) new → halt ≡ halt_of (board_in world) (reverse events) → halt ≡ None → Facts new
+    → after ≡ before ++ new ∷ [] → IsUp reading before after
+up new halt before after begun made is none facts left = record { world = new; left = left; through = through new halt begun made is none facts }
+
+-- or to the step that stopped it
+stopped_so : (halt : Option Halt) (stop : Halt) → halt ≡ Some stop → (output : Result (List ℕ) Reason) → unless_stopped halt output ≡ Err (Panicked stop)
+stopped_so halt stop is output = rw is refl
+
+pub not_up : {reading : Reading} {events : List Event} {world : World} (new : World) (halt : Option Halt) (before after : List World) (ending : Ending) → IsBegun reading events world
+    → IsAfter (board_in world) (steps_made (board_in world) (reverse events)) new → halt ≡ halt_of (board_in world) (reverse events) → IsHaltOf halt (Err ending)
+    → (ending ≢ Memory → after ≡ before ++ new ∷ []) → IsNotUp reading before after ending
+not_up new halt before after Done begun made is stops left = absurd stops
+not_up new halt before after ReadFault begun made is stops left = absurd stops
+not_up new halt before after WriteFault begun made is stops left = absurd stops
+not_up new halt before after Memory begun made is stops left = tt
+not_up {reading} new halt before after (NoOutput (Panicked stop)) begun made is stops left = record {
+  world = new;
+  left = left (λ e. let no : ⊥ = cc in no);
+  machine = made_of new begun made;
+  stopped = stopped_so (halt_of (board_of reading) (history reading.steps)) stop (sym (carried halt_of begun) ∙ sym is ∙ stops);
+}
+not_up new halt before after (NoOutput _) begun made is stops left = absurd stops

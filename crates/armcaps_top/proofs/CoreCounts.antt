@@ -1,9 +1,11 @@
 -- The cores of `demo` are 1 to 64.
-use Rattle.std.proofs.Common.{◌≡◌, ℕ, ◌≤◌, Bool, true, false, cond, nat_lt, List, [], ◌∷◌, length, codes, Option, Some, None, arith}
+use Rattle.std.proofs.Common.{◌≡◌, ℕ, ◌≤◌, Bool, true, false, cond, nat_lt, List, [], ◌∷◌, length, codes, Option, Some, None, refl, arith}
 use Rattle.std.specs.Str.{bytes_eq}
 use Rattle.std.proofs.lemmas.Bool.Decides.{nat_tests}
 use Rattle.armcaps_lex.specs.Digits.{digits_number}
 use Rattle.armcaps_top.specs.Commands.{command_of, command_of_two, core_number, cores_number, demo_of, instruction_word, mrs_of, seed_number, within}
+use Rattle.armcaps_top.specs.Inside.{AreCoresGiven}
+use Rattle.armcaps_top.specs.declared.commands.Command.{Command}
 use Rattle.armcaps_top.specs.declared.commands.Command.TheVariants.{Ask, Patch, Demo}
 use Rattle.armcaps_top.specs.declared.commands.Query.TheVariants.{Report, Trace}
 
@@ -38,7 +40,7 @@ of_two true demo core word first second seed cores is = absurd (of_mrs core word
 of_two false true core word first second seed cores is = of_demo first second seed cores is
 of_two false false core word first second seed cores is = absurd (let no : ⊥ = cc in no)
 
-pub cores_are : (words : List (List ℕ)) (seed cores : ℕ) → command_of words ≡ Some (Demo seed cores) → (1 ≤ cores) × (cores ≤ 64)
+cores_are : (words : List (List ℕ)) (seed cores : ℕ) → command_of words ≡ Some (Demo seed cores) → (1 ≤ cores) × (cores ≤ 64)
 unfolding command_of command_of_two
 cores_are [] seed cores is = absurd (let no : ⊥ = cc in no)
 cores_are (name ∷ []) seed cores is =
@@ -48,3 +50,10 @@ cores_are (name ∷ first ∷ second ∷ []) seed cores is =
     bounded (nat_lt 2 (length second)) (digits_number 10 second) 1 64 cores
     (of_two (bytes_eq name (codes "mrs")) (bytes_eq name (codes "demo")) (core_number first) (instruction_word second) (seed_number first) (cores_number second) seed cores is)
 cores_are (name ∷ first ∷ second ∷ third ∷ more) seed cores is = absurd (let no : ⊥ = cc in no)
+
+given : (command : Option Command) → ((seed cores : ℕ) → command ≡ Some (Demo seed cores) → (1 ≤ cores) × (cores ≤ 64)) → AreCoresGiven command
+given (Some (Demo seed cores)) law = law seed cores refl
+given _ law = tt
+
+pub cores_given : (words : List (List ℕ)) → AreCoresGiven (command_of words)
+cores_given words = given (command_of words) (cores_are words)

@@ -19,8 +19,7 @@ use Rattle.armcaps_text.specs.Document.{Outcome, Reading, outcome}
 use Rattle.armcaps_text.specs.Formats.{format_of}
 use Rattle.armcaps_text.specs.Sound.{IsSound}
 use Rattle.armcaps_top.specs.Document.{Document, document, document_after, image_refusal, unless_refused}
-use Rattle.armcaps_top.specs.Output.{board_of}
-use Rattle.armcaps_top.specs.Run.{admitted_in, steps_of}
+use Rattle.armcaps_top.specs.Answer.{admitted_in, board_of, steps_of}
 use Rattle.armcaps_top.specs.declared.refusal.Refusal.{Refusal}
 use Rattle.armcaps_top.specs.declared.refusal.Refusal.TheVariants.{TooLong}
 

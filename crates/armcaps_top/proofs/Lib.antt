@@ -3,6 +3,7 @@ pub mod Brought
 pub mod CoreCounts
 pub mod Covered
 pub mod DocumentFields
+pub mod Fitting
 pub mod Generated
 pub mod GeneratedSites
 pub mod Images
@@ -16,3 +17,4 @@ pub mod Steps
 pub mod Tallies
 pub mod Texts
 pub mod Traces
+pub mod Written

@@ -1,6 +1,6 @@
 -- The limits of the formats, and inputs that are longer.
 use Rattle.std.proofs.Common.{◌≡◌, ℕ, ◌+◌, ◌<◌, ◌≤◌, ◌⊎◌, inl, inr, Bool, true, false, cond, nat_lt, List, [], ◌++◌, length, Option, None, Some, refl, sym, ap, ◌∙◌, arith, length-append, lit≤}
-use Rattle.std.specs.Prelude.{IfSome, Err, option_and_then, slice_get, unwrap_or}
+use Rattle.std.specs.Prelude.{Err, option_and_then, slice_get, unwrap_or}
 use Rattle.std.proofs.lemmas.Bool.Decides.{nat_tests}
 use Rattle.std.proofs.lemmas.List.{take-append-le}
 use Rattle.armcaps_io.specs.Streams.{GivesAtMost, Moves}
@@ -9,6 +9,7 @@ use Rattle.armcaps_text.specs.Formats.{format_named, format_of, format_one, form
 use Rattle.armcaps_text.specs.Lines.{ended_lines, first_mebibyte, lines_of}
 use Rattle.armcaps_text.specs.declared.format.Format.{Format}
 use Rattle.armcaps_top.specs.Document.{document}
+use Rattle.armcaps_top.specs.Inside.{IsNoDocument}
 use Rattle.armcaps_top.specs.declared.refusal.Refusal.TheVariants.{TooLong}
 
 by_tests : (first second : Bool) → (unwrap_or (cond first (Some format_one) (cond second (Some format_two) None)) format_one ≡ format_one)
@@ -49,13 +50,13 @@ longer input limit is long =
 
 -- an input of which more bytes came than its format allows
 pub too_long : (left after : Option (List ℕ)) (bytes : List ℕ) (limit : ℕ) → Moves left after [] bytes → limit < length bytes → 1048576 ≤ length bytes
-    → (format_of bytes).input ≡ limit → IfSome left (λ input. document input ≡ Err (TooLong limit))
-too_long None after bytes limit moved long most is = tt
+    → (format_of bytes).input ≡ limit → IsNoDocument left (TooLong limit)
+too_long None after bytes limit moved long most is = record { bytes = bytes; told = tt; is = longer bytes limit is long }
 too_long (Some input) None bytes limit moved long most is = absurd moved.given
 too_long (Some input) (Some rest) bytes limit moved long most is =
     let given : input ≡ bytes ++ rest = moved.given ∙ ap (λ (part : List ℕ). part ++ rest) (sym moved.grown) in
     let format : (format_of input).input ≡ limit = ap (λ (i : List ℕ). (format_of i).input) given ∙ ap (λ (f : Format). f.input) (same_format bytes rest most) ∙ is in
-    longer input limit format (rw given (omega (arith, length-append bytes rest)))
+    record { bytes = input; told = refl; is = longer input limit format (rw given (omega (arith, length-append bytes rest))) }
 
 -- bytes that grow past the first 1,048,576 keep their format
 pub grown_format : (left after : Option (List ℕ)) (before bytes : List ℕ) → Moves left after before bytes → 1048576 ≤ length before → format_of bytes ≡ format_of before

@@ -36,9 +36,7 @@ use Rattle.armcaps_mrs.specs.Reading.{user_read}
 use Rattle.armcaps_report.specs.Report.{report_of}
 use Rattle.armcaps_report.specs.Settled.{AreSettled, is_settled}
 use Rattle.armcaps_top.specs.Mrs.{read_line, read_refused_of}
-use Rattle.armcaps_top.specs.Output.{output_after, unless_stopped}
 use Rattle.armcaps_top.specs.declared.commands.Query.TheVariants.{Report, Mrs}
-use Rattle.armcaps_top.specs.declared.ending.Ending.TheVariants.{NotPatched, NotRead}
 use Rattle.armcaps_top.proofs.Steps.{made_whole}
 
 -- where no step stopped the machine, all are made
@@ -50,44 +48,6 @@ whole_after board steps world going made = subst (λ (s : List Event). IsAfter b
 pub findings_are : (board : Board) (steps : List Event) (world : World) → IsAfter board steps world → findings_of world ≡ findings_after board steps
 findings_are board steps world after =
     let is = after.of_board in rw (is.cores, is.boot, is.overrides, after.states) refl
-
-pub reported : (board : Board) (steps : List Event) (world : World) (text : List ℕ) → halt_of board steps ≡ None → IsAfter board (steps_made board steps) world
-    → text ≡ report_of (findings_of world) → output_after Report board steps ≡ Ok text
-reported board steps world text going made is =
-    let same = is ∙ ap report_of (findings_are board steps world (whole_after board steps world going made)) in rw (going, same) refl
-
--- a read that comes to this
-pub was_read : (board : Board) (steps : List Event) (world : World) (core word : ℕ) (read : UserRead) (text : List ℕ) → halt_of board steps ≡ None
-    → IsAfter board (steps_made board steps) world → user_read (findings_of world) core word ≡ Ok read → text ≡ read_line read
-    → output_after (Mrs core word) board steps ≡ Ok text
-was_read board steps world core word read text going made is written =
-    let found = sym (ap (λ f. user_read f core word) (findings_are board steps world (whole_after board steps world going made))) ∙ is in
-    rw (going, found, written) refl
-
-pub was_not_read : (board : Board) (steps : List Event) (world : World) (core word : ℕ) (refused : UserRefused) → halt_of board steps ≡ None
-    → IsAfter board (steps_made board steps) world → user_read (findings_of world) core word ≡ Err refused
-    → output_after (Mrs core word) board steps ≡ Err (NotRead (read_refused_of core word refused))
-was_not_read board steps world core word refused going made is =
-    let found = sym (ap (λ f. user_read f core word) (findings_are board steps world (whole_after board steps world going made))) ∙ is in
-    rw (going, found) refl
-
--- entries none of which is refused
-pub entries_accepted : (board : Board) (steps : List Event) (reading : Reading) (names : NameLists) (image : List ℕ) (layout : Layout) (plan : Planned)
-    → halt_of board steps ≡ None → reading.layout ≡ layout → reading.names ≡ names
-    → StandsFor plan (features_of_findings (findings_after board steps) names) image layout
-    → unless_stopped (halt_of board steps) (patch_output board steps reading image)
-    ≡ Ok (patched_image (features_of_findings (findings_after board steps) names) image layout)
-entries_accepted board steps reading names image layout plan going same_layout same_names stands = rw (going, same_layout, same_names, stands.accepted) refl
-
--- an entry that is refused
-pub entry_refused : (board : Board) (steps : List Event) (world : World) (reading : Reading) (names : NameLists) (image : List ℕ) (layout : Layout)
-    (entry : ℕ) (kind : PatchKind) → halt_of board steps ≡ None → IsAfter board (steps_made board steps) world → reading.layout ≡ layout
-    → reading.names ≡ names → first_refusal (features_of world names) image layout ≡ Some (record { entry = entry; kind = kind })
-    → unless_stopped (halt_of board steps) (patch_output board steps reading image) ≡ Err (NotPatched entry kind)
-entry_refused board steps world reading names image layout entry kind going made same_layout same_names is =
-    let found = sym (ap (λ (f : Findings). first_refusal (features_of_findings f names) image layout)
-    (findings_are board steps world (whole_after board steps world going made))) ∙ is in
-    rw (going, same_layout, same_names, found) refl
 
 by_stop : (stops : Bool) (cause : Cause) → ((c : Cause) → cond stops (HasPanicked cause) (Parked cause) ≡ HasPanicked c → ⊥)
     → is_settled (cond stops (HasPanicked cause) (Parked cause)) ≡ true

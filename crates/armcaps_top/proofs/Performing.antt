@@ -1,164 +1,248 @@
--- From what becomes of a document to what a command does.
-use Rattle.std.proofs.Common.{◌≡◌, ◌≢◌, ℕ, Bool, true, false, List, [], ◌∷◌, Option, Some, None, refl, sym, ap, subst, ◌∙◌, arith, drop}
-use Rattle.std.specs.Prelude.{Result, Ok, Err, IfSome}
-use Rattle.std.specs.Option.{option_map}
+-- From what is made of an answer to what a command does.
+use Rattle.std.proofs.Common.{◌≡◌, ◌≢◌, ℕ, ◌+◌, ◌-◌, ◌≤◌, Bool, true, false, cond, nat_lt, List, [], ◌∷◌, ◌++◌, length, drop, Option, Some, None, refl, sym, ap, subst, ◌∙◌, arith}
+use Rattle.std.specs.Prelude.{Result, Ok, Err, IfSome, unwrap_or}
 use Rattle.std.specs.Result.{IsOkAnd}
-use Rattle.armcaps_alt.specs.Refusals as alternatives
-use Rattle.armcaps_boot.specs.declared.halt.Halt.{Halt}
-use Rattle.armcaps_boot.specs.Outcome.{IsSafe}
+use Rattle.std.proofs.lemmas.Bool.Decides.{nat_tests}
 use Rattle.armcaps_boot.specs.World.{World}
 use Rattle.armcaps_io.specs.Causes.{Rose}
-use Rattle.armcaps_io.specs.Streams.{Appends, AppendsPrefix, GivesAll, Keeps}
-use Rattle.armcaps_text.specs.Document.{Reading}
-use Rattle.armcaps_top.specs.Document.{Document, document}
-use Rattle.armcaps_top.specs.Inside.{IsInstead, LeavesAfter, Performs}
-use Rattle.armcaps_top.specs.Output.{board_of, unless_stopped}
-use Rattle.armcaps_top.specs.Patch.{unless_entry_refused}
-use Rattle.armcaps_top.specs.Run.{Change, IsMachineOf, LeavesMachine, answer_for, halt_in, output_in, steps_of, written_of}
-use Rattle.armcaps_top.specs.declared.commands.Command.TheVariants.{Patch}
+use Rattle.armcaps_io.specs.Streams.{Appends, AppendsPrefix, GivesAll, GivesAtMost, GivesCount, Keeps}
+use Rattle.armcaps_text.specs.Document.{Outcome, Reads, Refuses, Reading, outcome}
+use Rattle.armcaps_text.specs.Formats.{format_of}
+use Rattle.armcaps_top.specs.Answer.{Answer, answer_of, halt_in, of_document, output_in, refused, unless_stopped}
+use Rattle.armcaps_top.specs.Demo.{generated_document}
+use Rattle.armcaps_top.specs.Document.{Document, document, document_after, image_refusal, unless_refused, with_image}
+use Rattle.armcaps_top.specs.Inside.{AreCoresGiven, Comes, Ends, IsHalted, IsInstead, IsNotRead, IsNotUp, IsRead, IsRefusedSo, IsThrough, IsUp, Performs}
+use Rattle.armcaps_top.specs.Run.{AreMachinesOf, Change, EndsSo, IsReadWhole, Writes, most_read, reads_input}
+use Rattle.armcaps_top.specs.declared.commands.Command.{Command}
+use Rattle.armcaps_top.specs.declared.commands.Command.TheVariants.{Ask, Patch, Demo}
 use Rattle.armcaps_top.specs.declared.ending.Ending.{Ending}
-use Rattle.armcaps_top.specs.declared.ending.Ending.TheVariants.{Done, Usage, Refused, ReadFault, WriteFault, Memory, Panicked, NotPatched, NotRead}
+use Rattle.armcaps_top.specs.declared.ending.Ending.TheVariants.{Done, ReadFault, WriteFault, Memory, NoOutput}
+use Rattle.armcaps_top.specs.declared.reason.Reason.{Reason}
+use Rattle.armcaps_top.specs.declared.reason.Reason.TheVariants.{Refused}
 use Rattle.armcaps_top.specs.declared.refusal.Refusal.{Refusal}
+use Rattle.armcaps_top.specs.declared.refusal.Refusal.TheVariants.{Line, TooLong, ImageShort, Trailing}
+use Rattle.armcaps_top.proofs.Fitting.{fits}
 
-pub document_is : (bytes one two image : List ℕ) (place : ℕ) (reading : Reading) → one ≡ bytes → two ≡ bytes
-    → document one ≡ Ok (record { reading = reading; image = drop place one }) → image ≡ drop place two
-    → document bytes ≡ Ok (record { reading = reading; image = image })
-document_is bytes one two image place reading first second is from =
-    ap document (sym first) ∙ is
-    ∙ ap (λ (i : List ℕ). Ok (record { reading = reading; image = i })) (ap (drop place) (first ∙ sym second) ∙ sym from)
-
--- what holds of the bytes that came holds of the input, where its bytes are told
-known : (P : Result Document Refusal → Type 0) (left after : Option (List ℕ)) (bytes : List ℕ) → GivesAll left after bytes → P (document bytes)
-    → IfSome (option_map document left) P
-known P None after bytes given holds = tt
-known P (Some xs) after bytes given holds = subst (λ (b : List ℕ). P (document b)) given.0 holds
-
-known_answer : (Q : Result (List ℕ) Ending → Type 0) (left after : Option (List ℕ)) (bytes : List ℕ) → GivesAll left after bytes
-    → Q (written_of Patch (document bytes)) → IfSome (answer_for (Some Patch) (option_map document left)) Q
-known_answer Q None after bytes given holds = tt
-known_answer Q (Some xs) after bytes given holds = subst (λ (b : List ℕ). Q (written_of Patch (document b))) given.0 holds
-
-read_whole : (left after : Option (List ℕ)) (bytes : List ℕ) → GivesAll left after bytes → IfSome left (λ b. after ≡ Some [])
-read_whole None after bytes given = tt
-read_whole (Some xs) after bytes given = given.1
-
-leaves : (left after : Option (List ℕ)) (bytes : List ℕ) (found : Document) (machines : List World) → GivesAll left after bytes → document bytes ≡ Ok found
-    → LeavesAfter (board_of found.reading) (steps_of found) machines → LeavesMachine (option_map document left) machines
-leaves left after bytes found [] given is made = absurd made
-leaves left after bytes found (world ∷ []) given is made =
-    known (λ one. IsOkAnd one (λ d. IsMachineOf d world)) left after bytes given (rw is made)
-leaves left after bytes found (world ∷ next ∷ more) given is made = absurd made
-
--- what was done where the image was written
-pub patched : (input out : Change) (bytes : List ℕ) (found : Document) (image : List ℕ) (machines : List World) → GivesAll input.old input.new bytes
-    → document bytes ≡ Ok found → written_of Patch (Ok found) ≡ Ok image → LeavesAfter (board_of found.reading) (steps_of found) machines
-    → IsSafe (board_of found.reading) (steps_of found) → Appends out.old out.new image → Performs Patch (option_map document input.old) input out machines Done
-patched input out bytes found image machines given is writes made safe added = record {
-  form = λ e. absurd (let no : ⊥ = cc in no);
-  reason = (
-    known_answer (λ one. IsOkAnd one (Appends out.old out.new)) input.old input.new bytes given (subst (λ (one : Result (List ℕ) Ending). IsOkAnd one (Appends out.old out.new)) (sym (ap (written_of Patch) is ∙ writes)) added),
-    λ reads. read_whole input.old input.new bytes given,
-  );
-  safe = λ e. known (λ one. IsOkAnd one (λ d. IsSafe (board_of d.reading) (steps_of d))) input.old input.new bytes given (rw is safe);
-  silent = λ done fault. absurd (done refl);
-  machine = λ has. leaves input.old input.new bytes found machines given is made;
-  no_machine = λ low done. absurd (done refl);
+-- nothing comes of an answer for want of memory
+pub no_memory : (answer : Answer) (machines : List World) → Comes answer machines (Err Memory)
+no_memory answer machines = record {
+  output = tt;
+  instead = tt;
+  machines_are = λ had. absurd (had refl);
+  safe = tt;
 }
 
--- where a part of it was written
-pub patched_part : (input out : Change) (bytes : List ℕ) (found : Document) (image : List ℕ) (machines : List World) → GivesAll input.old input.new bytes
-    → document bytes ≡ Ok found → written_of Patch (Ok found) ≡ Ok image → LeavesAfter (board_of found.reading) (steps_of found) machines
-    → Rose out.before out.now → AppendsPrefix out.old out.new image → Performs Patch (option_map document input.old) input out machines WriteFault
-patched_part input out bytes found image machines given is writes made rose added = record {
-  form = λ e. absurd (let no : ⊥ = cc in no);
-  reason = (rose, known_answer (λ one. IsOkAnd one (AppendsPrefix out.old out.new)) input.old input.new bytes given (subst (λ (one : Result (List ℕ) Ending). IsOkAnd one (AppendsPrefix out.old out.new)) (sym (ap (written_of Patch) is ∙ writes)) added));
+-- an input that is refused
+pub not_taken : (command : Command) (answer : Answer) (bytes : List ℕ) (machines : List World) (ending : Ending) → answer ≡ of_document command (document bytes)
+    → machines ≡ [] → IsRefusedSo bytes ending → Comes answer machines (Err ending)
+not_taken command answer bytes machines Done of none is = absurd is
+not_taken command answer bytes machines ReadFault of none is = absurd is
+not_taken command answer bytes machines WriteFault of none is = absurd is
+not_taken command answer bytes machines Memory of none is = no_memory answer machines
+not_taken command answer bytes machines (NoOutput (Refused refusal)) of none is = rw (of, is, none) (record {
+  output = tt;
+  instead = refl;
+  machines_are = λ had. tt;
+  safe = tt;
+})
+not_taken command answer bytes machines (NoOutput _) of none is = absurd is
+
+-- what a document is, its image apart
+pub document_is : (reading : Reading) (image bytes : List ℕ) (place : ℕ) → document bytes ≡ Ok (record { reading = reading; image = drop place bytes })
+    → image ≡ drop place bytes → document bytes ≡ Ok (record { reading = reading; image = image })
+document_is reading image bytes place is from = rw from is
+
+-- one machine was brought up
+one_left : (old new : List World) (world : World) → new ≡ old ++ world ∷ [] → old ≡ [] → new ≡ world ∷ []
+one_left old new world is none = is ∙ rw none refl
+
+-- the only machine
+pub only_through : {reading : Reading} {old new : List World} (world : World) → IsUp reading old new → old ≡ [] → new ≡ world ∷ [] → IsThrough reading world
+only_through {reading} {old} {new} world up none one =
+    let both : up.world ∷ [] ≡ world ∷ [] = sym (one_left old new up.world up.left none) ∙ one in
+    let same : up.world ≡ world = cc in subst (λ (w : World). IsThrough reading w) same up.through
+
+-- what is made of a machine that was brought up
+pub came : (command : Command) (found : Document) (old new : List World) (text : List ℕ) → IsUp found.reading old new → old ≡ [] → output_in command found ≡ Ok text
+    → Comes (of_document command (Ok found)) new (Ok text)
+came command found old new text up none is = record {
+  output = ap (λ halt. unless_stopped halt (output_in command found)) up.through.going ∙ is;
+  instead = tt;
+  machines_are = λ had. rw (one_left old new up.world up.left none) (up.through.machine, tt);
+  safe = (up.through.safe, tt);
+}
+
+-- why nothing is
+pub came_not : (command : Command) (found : Document) (old new : List World) (reason : Reason) → IsUp found.reading old new → old ≡ [] → output_in command found ≡ Err reason
+    → Comes (of_document command (Ok found)) new (Err (NoOutput reason))
+came_not command found old new reason up none is = record {
+  output = tt;
+  instead = ap (λ halt. unless_stopped halt (output_in command found)) up.through.going ∙ is;
+  machines_are = λ had. rw (one_left old new up.world up.left none) (up.through.machine, tt);
+  safe = tt;
+}
+
+-- why a machine was not brought up
+pub not_up : (command : Command) (found : Document) (old new : List World) (ending : Ending) → IsNotUp found.reading old new ending → old ≡ []
+    → Comes (of_document command (Ok found)) new (Err ending)
+not_up command found old new Done is none = absurd is
+not_up command found old new ReadFault is none = absurd is
+not_up command found old new WriteFault is none = absurd is
+not_up command found old new Memory is none = no_memory (of_document command (Ok found)) new
+not_up command found old new (NoOutput reason) halted none = record {
+  output = tt;
+  instead = halted.stopped (output_in command found);
+  machines_are = λ had. rw (one_left old new halted.world halted.left none) (halted.machine, tt);
+  safe = tt;
+}
+
+-- what was made is written
+pub wrote : (command : Command) (answer : Answer) (out : Change) (machines : List World) (text : List ℕ) → Comes answer machines (Ok text)
+    → Appends out.old out.new text → Ends command answer out machines Done
+wrote command answer out machines text comes added = record {
+  so = λ input whole. (rw comes.output added, whole);
+  read = λ e. let no : ⊥ = cc in no;
+  safe = λ e. comes.safe;
+  silent = λ done fault. absurd (done refl);
+  machines_are = λ had. comes.machines_are (λ e. let no : ⊥ = cc in no);
+}
+
+-- or a first part of it
+pub wrote_part : (command : Command) (answer : Answer) (out : Change) (machines : List World) (text : List ℕ) → Comes answer machines (Ok text)
+    → Rose out.before out.now → AppendsPrefix out.old out.new text → Ends command answer out machines WriteFault
+wrote_part command answer out machines text comes rose added = record {
+  so = λ input whole. (rose, rw comes.output added);
+  read = λ e. let no : ⊥ = cc in no;
   safe = λ e. absurd (let no : ⊥ = cc in no);
   silent = λ done fault. absurd (fault refl);
-  machine = λ has. leaves input.old input.new bytes found machines given is made;
-  no_machine = λ low done. absurd (omega (arith, low));
+  machines_are = λ had. comes.machines_are (λ e. let no : ⊥ = cc in no);
 }
 
--- a stopped machine, of an answer
-stopped_halt : (halt : Option Halt) (output : Result (List ℕ) Ending) (stops : Halt) → (output ≡ Err (Panicked stops) → ⊥)
-    → unless_stopped halt output ≡ Err (Panicked stops) → halt ≡ Some stops
-stopped_halt None output stops never is = absurd (never is)
-stopped_halt (Some halt) output stops never is = cc
-
--- what `patch` ends with in place of an image
-abbrev can_be : Ending → Bool
-can_be Done = false
-can_be Usage = false
-can_be (Refused refusal) = false
-can_be ReadFault = false
-can_be WriteFault = false
-can_be Memory = false
-can_be (Panicked halt) = true
-can_be (NotPatched entry kind) = true
-can_be (NotRead refused) = false
-
-abbrev is_fit : Result (List ℕ) Ending → Bool
-is_fit (Ok image) = true
-is_fit (Err ending) = can_be ending
-
-fit_entry : (refusal : Option alternatives.Refusal) (image : List ℕ) → is_fit (unless_entry_refused refusal image) ≡ true
-fit_entry None image = refl
-fit_entry (Some refusal) image = refl
-
-fit_halt : (halt : Option Halt) (output : Result (List ℕ) Ending) → is_fit output ≡ true → is_fit (unless_stopped halt output) ≡ true
-fit_halt None output fit = fit
-fit_halt (Some halt) output fit = refl
-
-never_stopped : (refusal : Option alternatives.Refusal) (image : List ℕ) (halt : Halt) → unless_entry_refused refusal image ≡ Err (Panicked halt) → ⊥
-never_stopped None image halt is = cc
-never_stopped (Some refusal) image halt is = cc
-
-ends_fit : (found : Document) (ending : Ending) → written_of Patch (Ok found) ≡ Err ending → can_be ending ≡ true
-ends_fit found ending is =
-    subst (λ (answer : Result (List ℕ) Ending). is_fit answer ≡ true) is
-    (fit_halt (halt_in found) (output_in Patch found) (fit_entry _ _))
-
-stops : (found : Document) (halt : Halt) → written_of Patch (Ok found) ≡ Err (Panicked halt) → halt_in found ≡ Some halt
-stops found halt is = stopped_halt (halt_in found) (output_in Patch found) halt (never_stopped _ _ halt) is
-
-no_end : (found : Document) (ending : Ending) → can_be ending ≡ false → written_of Patch (Ok found) ≡ Err ending → ⊥
-no_end found ending cannot is = let both : true ≡ false = sym (ends_fit found ending is) ∙ cannot in cc
-
--- what was done where no image is written
-pub not_patched : (input out : Change) (bytes : List ℕ) (found : Document) (machines : List World) (ending : Ending) → GivesAll input.old input.new bytes
-    → document bytes ≡ Ok found → IsInstead (written_of Patch (Ok found)) ending
-    → (ending ≢ Memory → LeavesAfter (board_of found.reading) (steps_of found) machines) → Keeps out.old out.new
-    → Performs Patch (option_map document input.old) input out machines ending
-not_patched input out bytes found machines Done given is instead made kept = absurd (no_end found Done refl instead)
-not_patched input out bytes found machines Usage given is instead made kept = absurd (no_end found Usage refl instead)
-not_patched input out bytes found machines (Refused refusal) given is instead made kept = absurd (no_end found (Refused refusal) refl instead)
-not_patched input out bytes found machines ReadFault given is instead made kept = absurd (no_end found ReadFault refl instead)
-not_patched input out bytes found machines WriteFault given is instead made kept = absurd (no_end found WriteFault refl instead)
-not_patched input out bytes found machines (NotRead refused) given is instead made kept = absurd (no_end found (NotRead refused) refl instead)
-not_patched input out bytes found machines Memory given is instead made kept = record {
-  form = λ e. absurd (let no : ⊥ = cc in no);
-  reason = tt;
+-- or nothing
+pub unwritten : (command : Command) (answer : Answer) (out : Change) (machines : List World) (ending : Ending) → Comes answer machines (Err ending)
+    → Keeps out.old out.new → Ends command answer out machines ending
+unwritten command answer out machines Done comes kept = absurd comes.instead
+unwritten command answer out machines ReadFault comes kept = absurd comes.instead
+unwritten command answer out machines WriteFault comes kept = absurd comes.instead
+unwritten command answer out machines Memory comes kept = record {
+  so = λ input whole. tt;
+  read = λ e. let no : ⊥ = cc in no;
   safe = λ e. absurd (let no : ⊥ = cc in no);
   silent = λ done fault. kept;
-  machine = λ has. absurd (let no : ⊥ = cc in no);
-  no_machine = λ low done. absurd (omega (arith, low));
+  machines_are = λ had. absurd (had refl);
 }
-not_patched input out bytes found machines (Panicked halt) given is instead made kept = record {
-  form = λ e. absurd (let no : ⊥ = cc in no);
-  reason = known (λ one. IsOkAnd one (λ d. halt_in d ≡ Some halt)) input.old input.new bytes given (rw is (stops found halt instead));
+unwritten command answer out machines (NoOutput reason) comes kept = record {
+  so = λ input whole. comes.instead;
+  read = λ e. let no : ⊥ = cc in no;
   safe = λ e. absurd (let no : ⊥ = cc in no);
   silent = λ done fault. kept;
-  machine = λ has. leaves input.old input.new bytes found machines given is (made (λ e. let no : ⊥ = cc in no));
-  no_machine = λ low done. absurd (omega (arith, low));
-}
-not_patched input out bytes found machines (NotPatched entry kind) given is instead made kept = record {
-  form = λ e. absurd (let no : ⊥ = cc in no);
-  reason = known_answer (λ one. one ≡ Err (NotPatched entry kind)) input.old input.new bytes given (ap (written_of Patch) is ∙ instead);
-  safe = λ e. absurd (let no : ⊥ = cc in no);
-  silent = λ done fault. kept;
-  machine = λ has. leaves input.old input.new bytes found machines given is (made (λ e. let no : ⊥ = cc in no));
-  no_machine = λ low done. absurd (omega (arith, low));
+  machines_are = λ had. comes.machines_are (λ e. let no : ⊥ = cc in no);
 }
 
 pub keeps : (bytes : Option (List ℕ)) → Keeps bytes bytes
 keeps None = tt
 keeps (Some bytes) = refl
+
+pub kept_too : {A : Type 0} (bytes : A → Option (List ℕ)) (old new : A) → new ≡ old → Keeps (bytes old) (bytes new)
+kept_too {A} bytes old new same = subst (λ (a : A). Keeps (bytes old) (bytes a)) (sym same) (keeps (bytes old))
+
+told_or : (left : Option (List ℕ)) → IfSome left (λ told. unwrap_or left [] ≡ told)
+told_or None = tt
+told_or (Some bytes) = refl
+
+-- an input within its limit is not refused for its length
+no_image : (fewer more : Bool) (given image extra limit : ℕ) (found : Document)
+    → unless_refused (cond fewer (Some (ImageShort given image)) (cond more (Some (Trailing extra)) None)) found ≡ Err (TooLong limit) → ⊥
+no_image true more given image extra limit found is = cc
+no_image false true given image extra limit found is = cc
+no_image false false given image extra limit found is = cc
+
+after_short : (read : Outcome) (input : List ℕ) (limit : ℕ) → document_after read input ≡ Err (TooLong limit) → ⊥
+after_short (Refuses line kind) input limit is = cc
+after_short (Reads reading place) input limit is =
+    let given : ℕ = length input - place in
+    no_image (nat_lt given reading.image) (nat_lt reading.image given) given reading.image (given - reading.image) limit
+    (record { reading = reading; image = drop place input }) is
+
+document_short : (input : List ℕ) (limit : ℕ) → length input ≤ (format_of input).input → document input ≡ Err (TooLong limit) → ⊥
+unfolding document
+document_short input limit within is =
+    let test : nat_lt (format_of input).input (length input) ≡ false = grind (arith, nat_tests) in
+    after_short (outcome input) input limit (rw test at is)
+
+of_refused : (command : Command) (read : Result Document Refusal) (refusal : Refusal) → of_document command read ≡ refused refusal → read ≡ Err refusal
+of_refused command (Ok found) refusal is = absurd (let none : found ∷ [] ≡ [] = ap (λ (answer : Answer). answer.machines) is in let no : ⊥ = cc in no)
+of_refused command (Err other) refusal is =
+    let same : Err (Refused other) ≡ Err (Refused refusal) = ap (λ (answer : Answer). answer.output) is in
+    let one : other ≡ refusal = cc in ap Err one
+
+answer_short : (command : Command) (bytes : List ℕ) (limit : ℕ) → length bytes ≤ (format_of bytes).input → answer_of command bytes ≡ refused (TooLong limit) → ⊥
+answer_short (Ask query) bytes limit within is = document_short bytes limit within (of_refused (Ask query) (document bytes) (TooLong limit) is)
+answer_short Patch bytes limit within is = document_short bytes limit within (of_refused Patch (document bytes) (TooLong limit) is)
+answer_short (Demo seed cores) bytes limit within is =
+    let no = of_refused (Demo seed cores) (Ok (generated_document seed cores)) (TooLong limit) is in absurd (let never : ⊥ = cc in never)
+
+-- a command that reads its input whole, and answers it
+pub performed : (command : Command) (input out : Change) (bytes slice : List ℕ) (machines : List World) (ending : Ending) → AreCoresGiven (Some command)
+    → IsRead command input bytes → slice ≡ bytes → length bytes ≤ (format_of bytes).input → Ends command (answer_of command slice) out machines ending
+    → GivesAtMost input.old input.new (most_read (Some command)) → (reads_input (Some command) ≡ false → Keeps input.old input.new)
+    → Performs command input out machines ending
+performed command input out bytes slice machines ending given read same within ends at_most unread =
+    let came : Ends command (answer_of command bytes) out machines ending = subst (λ (b : List ℕ). Ends command (answer_of command b) out machines ending) same ends in
+    let so : EndsSo (Some command) (answer_of command bytes) input out ending = came.so input read.whole in record {
+      bytes = bytes;
+      told_bytes = read.told_bytes;
+      reason = so;
+      safe = came.safe;
+      too_long = λ limit is. absurd (answer_short command bytes limit within ((fits (Some command) bytes given).refused (TooLong limit)
+          (subst (λ (e : Ending). EndsSo (Some command) (answer_of command bytes) input out e) is so)));
+      silent = came.silent;
+      unread = unread;
+      read_at_most = at_most;
+      machines_are = λ fault memory. came.machines_are memory;
+      no_machine = λ fault. absurd (came.read fault);
+    }
+
+-- a command whose input was not read whole
+pub not_performed : (command : Command) (input out : Change) (machines : List World) (ending : Ending) → machines ≡ [] → out.new ≡ out.old → IsNotRead command input ending
+    → ((limit : ℕ) → ending ≡ NoOutput (Refused (TooLong limit)) → GivesCount input.old input.new (limit + 1))
+    → GivesAtMost input.old input.new (most_read (Some command)) → (reads_input (Some command) ≡ false → Keeps input.old input.new)
+    → Performs command input out machines ending
+not_performed command input out machines Done none same is one_more at_most unread = absurd is
+not_performed command input out machines WriteFault none same is one_more at_most unread = absurd is
+not_performed command input out machines ReadFault none same is one_more at_most unread = record {
+  bytes = unwrap_or input.old [];
+  told_bytes = λ reads. told_or input.old;
+  reason = is;
+  safe = λ e. absurd (let no : ⊥ = cc in no);
+  too_long = one_more;
+  silent = λ done fault. subst (λ (b : Option (List ℕ)). Keeps out.old b) (sym same) (keeps out.old);
+  unread = unread;
+  read_at_most = at_most;
+  machines_are = λ fault memory. absurd (fault refl);
+  no_machine = λ fault. none;
+}
+not_performed command input out machines Memory none same is one_more at_most unread = record {
+  bytes = unwrap_or input.old [];
+  told_bytes = λ reads. told_or input.old;
+  reason = tt;
+  safe = λ e. absurd (let no : ⊥ = cc in no);
+  too_long = one_more;
+  silent = λ done fault. subst (λ (b : Option (List ℕ)). Keeps out.old b) (sym same) (keeps out.old);
+  unread = unread;
+  read_at_most = at_most;
+  machines_are = λ fault memory. absurd (memory refl);
+  no_machine = λ fault. none;
+}
+not_performed command input out machines (NoOutput reason) none same is one_more at_most unread = record {
+  bytes = is.bytes;
+  told_bytes = is.told_bytes;
+  reason = ap (λ (answer : Answer). answer.output) is.refused;
+  safe = λ e. absurd (let no : ⊥ = cc in no);
+  too_long = one_more;
+  silent = λ done fault. subst (λ (b : Option (List ℕ)). Keeps out.old b) (sym same) (keeps out.old);
+  unread = unread;
+  read_at_most = at_most;
+  machines_are = λ fault memory. rw (is.refused, none) tt;
+  no_machine = λ fault. none;
+}

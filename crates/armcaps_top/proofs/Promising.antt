@@ -1,274 +1,152 @@
 -- From what a command does to what a run promises.
-use Rattle.std.proofs.Common.{◌≡◌, ◌≢◌, ◌⊎◌, inl, inr, ℕ, ◌≤◌, true, false, List, [], Option, Some, None, refl, sym, ap, subst, ◌∙◌, arith, lit≤}
-use Rattle.std.specs.Prelude.{Result, Ok, Err, IfSome, IsSome}
-use Rattle.std.specs.Option.{option_map}
-use Rattle.std.specs.Result.{IsOkAnd, IsErr}
-use Rattle.armcaps_alt.specs.declared.patch_kind.PatchKind.{PatchKind}
+use Rattle.std.proofs.Common.{◌≡◌, ◌≢◌, ◌⊎◌, inl, inr, ℕ, ◌≤◌, ◌||◌, Bool, true, false, List, [], ◌∷◌, Option, Some, None, refl, sym, ap, subst, ◌∙◌, arith}
+use Rattle.std.specs.Prelude.{◌==◌, Result, Ok, Err}
+use Rattle.std.specs.Result.{IsOkAnd}
 use Rattle.armcaps_boot.specs.declared.halt.Halt.{Halt}
 use Rattle.armcaps_boot.specs.World.{World}
 use Rattle.armcaps_io.specs.Causes.{Rose}
 use Rattle.armcaps_io.specs.Streams.{Appends, GivesAtMost, Keeps}
-use Rattle.armcaps_top.specs.Commands.{command_of}
-use Rattle.armcaps_top.specs.Document.{Document}
-use Rattle.armcaps_top.specs.Ending.{status_of}
-use Rattle.armcaps_top.specs.Inside.{CanEnd, Performs}
-use Rattle.armcaps_top.specs.Run.{Change, IsPatchRefused, IsReadRefused, Promises, Reason, answer_for, answer_status, document_for, halt_in, reads_input, written_of}
+use Rattle.armcaps_top.specs.Answer.{Answer, answer_for, answer_of}
+use Rattle.armcaps_top.specs.Ending.{output_status, reason_status, status_of}
+use Rattle.armcaps_top.specs.Inside.{AreCoresGiven, Performs}
+use Rattle.armcaps_top.specs.Run.{AreMachinesOf, Change, EndsSo, IsRefused, Promises, ReadFails, can_end, is_some_stopped, reads_input}
 use Rattle.armcaps_top.specs.Telling.{Tells}
 use Rattle.armcaps_top.specs.declared.commands.Command.{Command}
-use Rattle.armcaps_top.specs.declared.commands.Command.TheVariants.{Demo}
-use Rattle.armcaps_top.specs.declared.commands.mrs.ReadRefused.{ReadRefused}
 use Rattle.armcaps_top.specs.declared.ending.Ending.{Ending}
-use Rattle.armcaps_top.specs.declared.ending.Ending.TheVariants.{Done, Usage, Refused, ReadFault, WriteFault, Memory, Panicked, NotPatched, NotRead}
+use Rattle.armcaps_top.specs.declared.ending.Ending.TheVariants.{Done, ReadFault, WriteFault, Memory, NoOutput}
+use Rattle.armcaps_top.specs.declared.reason.Reason.{Reason}
+use Rattle.armcaps_top.specs.declared.reason.Reason.TheVariants.{Usage, Refused, Panicked, NotPatched, NotRead}
 use Rattle.armcaps_top.specs.declared.refusal.Refusal.{Refusal}
+use Rattle.armcaps_top.proofs.Fitting.{Fits, fits, read_ends, stream_ends}
+use Rattle.armcaps_top.proofs.Performing.{keeps}
 
--- the endings of each status
+-- the statuses that streams and memory have
+abbrev is_of_run : ℕ → Bool
+is_of_run status = (status == 0) || (status == 4) || (status == 5) || (status == 6)
+
+none_of_run : (reason : Reason) → is_of_run (reason_status reason) ≡ false
+none_of_run Usage = refl
+none_of_run _ = refl
+
+not_of_run : (reason : Reason) (status : ℕ) → is_of_run status ≡ true → reason_status reason ≡ status → ⊥
+not_of_run reason status of_run is = let both : true ≡ false = sym of_run ∙ sym (ap is_of_run is) ∙ none_of_run reason in cc
+
+-- the ending of each status
 done_of : (ending : Ending) → status_of ending ≡ 0 → ending ≡ Done
 done_of Done is = refl
-done_of Usage is = absurd (omega (arith, is))
-done_of (Refused refusal) is = absurd (omega (arith, is))
-done_of ReadFault is = absurd (omega (arith, is))
-done_of WriteFault is = absurd (omega (arith, is))
-done_of Memory is = absurd (omega (arith, is))
-done_of (Panicked halt) is = absurd (omega (arith, is))
-done_of (NotPatched entry kind) is = absurd (omega (arith, is))
-done_of (NotRead refused) is = absurd (omega (arith, is))
-
-usage_of : (ending : Ending) → status_of ending ≡ 2 → ending ≡ Usage
-usage_of Done is = absurd (omega (arith, is))
-usage_of Usage is = refl
-usage_of (Refused refusal) is = absurd (omega (arith, is))
-usage_of ReadFault is = absurd (omega (arith, is))
-usage_of WriteFault is = absurd (omega (arith, is))
-usage_of Memory is = absurd (omega (arith, is))
-usage_of (Panicked halt) is = absurd (omega (arith, is))
-usage_of (NotPatched entry kind) is = absurd (omega (arith, is))
-usage_of (NotRead refused) is = absurd (omega (arith, is))
-
-refused_of : (ending : Ending) → status_of ending ≡ 3 → (refusal : Refusal) × (ending ≡ Refused refusal)
-refused_of Done is = absurd (omega (arith, is))
-refused_of Usage is = absurd (omega (arith, is))
-refused_of (Refused refusal) is = (refusal, refl)
-refused_of ReadFault is = absurd (omega (arith, is))
-refused_of WriteFault is = absurd (omega (arith, is))
-refused_of Memory is = absurd (omega (arith, is))
-refused_of (Panicked halt) is = absurd (omega (arith, is))
-refused_of (NotPatched entry kind) is = absurd (omega (arith, is))
-refused_of (NotRead refused) is = absurd (omega (arith, is))
+done_of (NoOutput reason) is = absurd (not_of_run reason 0 refl is)
+done_of _ is = absurd (omega (arith, is))
 
 read_fault_of : (ending : Ending) → status_of ending ≡ 4 → ending ≡ ReadFault
-read_fault_of Done is = absurd (omega (arith, is))
-read_fault_of Usage is = absurd (omega (arith, is))
-read_fault_of (Refused refusal) is = absurd (omega (arith, is))
 read_fault_of ReadFault is = refl
-read_fault_of WriteFault is = absurd (omega (arith, is))
-read_fault_of Memory is = absurd (omega (arith, is))
-read_fault_of (Panicked halt) is = absurd (omega (arith, is))
-read_fault_of (NotPatched entry kind) is = absurd (omega (arith, is))
-read_fault_of (NotRead refused) is = absurd (omega (arith, is))
+read_fault_of (NoOutput reason) is = absurd (not_of_run reason 4 refl is)
+read_fault_of _ is = absurd (omega (arith, is))
 
 write_fault_of : (ending : Ending) → status_of ending ≡ 5 → ending ≡ WriteFault
-write_fault_of Done is = absurd (omega (arith, is))
-write_fault_of Usage is = absurd (omega (arith, is))
-write_fault_of (Refused refusal) is = absurd (omega (arith, is))
-write_fault_of ReadFault is = absurd (omega (arith, is))
 write_fault_of WriteFault is = refl
-write_fault_of Memory is = absurd (omega (arith, is))
-write_fault_of (Panicked halt) is = absurd (omega (arith, is))
-write_fault_of (NotPatched entry kind) is = absurd (omega (arith, is))
-write_fault_of (NotRead refused) is = absurd (omega (arith, is))
+write_fault_of (NoOutput reason) is = absurd (not_of_run reason 5 refl is)
+write_fault_of _ is = absurd (omega (arith, is))
 
-panicked_of : (ending : Ending) → status_of ending ≡ 7 → (halt : Halt) × (ending ≡ Panicked halt)
-panicked_of Done is = absurd (omega (arith, is))
-panicked_of Usage is = absurd (omega (arith, is))
-panicked_of (Refused refusal) is = absurd (omega (arith, is))
-panicked_of ReadFault is = absurd (omega (arith, is))
-panicked_of WriteFault is = absurd (omega (arith, is))
-panicked_of Memory is = absurd (omega (arith, is))
-panicked_of (Panicked halt) is = (halt, refl)
-panicked_of (NotPatched entry kind) is = absurd (omega (arith, is))
-panicked_of (NotRead refused) is = absurd (omega (arith, is))
+usage_of : (ending : Ending) → status_of ending ≡ 2 → ending ≡ NoOutput Usage
+usage_of (NoOutput Usage) is = refl
+usage_of (NoOutput _) is = absurd (omega (arith, is))
+usage_of _ is = absurd (omega (arith, is))
 
-not_read_of : (ending : Ending) → status_of ending ≡ 9 → (refused : ReadRefused) × (ending ≡ NotRead refused)
-not_read_of Done is = absurd (omega (arith, is))
-not_read_of Usage is = absurd (omega (arith, is))
-not_read_of (Refused refusal) is = absurd (omega (arith, is))
-not_read_of ReadFault is = absurd (omega (arith, is))
-not_read_of WriteFault is = absurd (omega (arith, is))
-not_read_of Memory is = absurd (omega (arith, is))
-not_read_of (Panicked halt) is = absurd (omega (arith, is))
-not_read_of (NotPatched entry kind) is = absurd (omega (arith, is))
-not_read_of (NotRead refused) is = (refused, refl)
+refused_of : (ending : Ending) → status_of ending ≡ 3 → (refusal : Refusal) × (ending ≡ NoOutput (Refused refusal))
+refused_of (NoOutput (Refused refusal)) is = (refusal, refl)
+refused_of (NoOutput _) is = absurd (omega (arith, is))
+refused_of _ is = absurd (omega (arith, is))
 
--- the entry and the kind of a refused entry
-record PatchEnding (ending : Ending) : Type 0 where
-  entry : ℕ
-  kind : PatchKind
-  is : ending ≡ NotPatched entry kind
+panicked_of : (ending : Ending) → status_of ending ≡ 7 → (halt : Halt) × (ending ≡ NoOutput (Panicked halt))
+panicked_of (NoOutput (Panicked halt)) is = (halt, refl)
+panicked_of (NoOutput _) is = absurd (omega (arith, is))
+panicked_of _ is = absurd (omega (arith, is))
 
-not_patched_of : (ending : Ending) → status_of ending ≡ 8 → PatchEnding ending
-not_patched_of Done is = absurd (omega (arith, is))
-not_patched_of Usage is = absurd (omega (arith, is))
-not_patched_of (Refused refusal) is = absurd (omega (arith, is))
-not_patched_of ReadFault is = absurd (omega (arith, is))
-not_patched_of WriteFault is = absurd (omega (arith, is))
-not_patched_of Memory is = absurd (omega (arith, is))
-not_patched_of (Panicked halt) is = absurd (omega (arith, is))
-not_patched_of (NotPatched entry kind) is = record { entry = entry; kind = kind; is = refl }
-not_patched_of (NotRead refused) is = absurd (omega (arith, is))
+-- the status of what is written
+written : (output : Result (List ℕ) Reason) (P : List ℕ → Type 0) → IsOkAnd output P → 0 ≡ output_status output
+written (Ok text) P holds = refl
+written (Err reason) P holds = absurd holds
 
-statuses : (ending : Ending) → (status_of ending ≡ 0) ⊎ ((2 ≤ status_of ending) × (status_of ending ≤ 9))
-statuses Done = inl refl
-statuses Usage = inr (lit≤ tt, lit≤ tt)
-statuses (Refused refusal) = inr (lit≤ tt, lit≤ tt)
-statuses ReadFault = inr (lit≤ tt, lit≤ tt)
-statuses WriteFault = inr (lit≤ tt, lit≤ tt)
-statuses Memory = inr (lit≤ tt, lit≤ tt)
-statuses (Panicked halt) = inr (lit≤ tt, lit≤ tt)
-statuses (NotPatched entry kind) = inr (lit≤ tt, lit≤ tt)
-statuses (NotRead refused) = inr (lit≤ tt, lit≤ tt)
-
--- facts that follow where the bytes are told
-if_some : {X : Type 0} (found : Option X) (P Q : X → Type 0) → ((x : X) → P x → Q x) → IfSome found P → IfSome found Q
-if_some None P Q law holds = tt
-if_some (Some x) P Q law holds = law x holds
-
-if_ok_and : {X E : Type 0} (found : Result X E) (P Q : X → Type 0) → ((x : X) → P x → Q x) → IsOkAnd found P → IsOkAnd found Q
-if_ok_and (Ok x) P Q law holds = law x holds
-if_ok_and (Err e) P Q law holds = absurd holds
-
-written : (answer : Result (List ℕ) Ending) (P : List ℕ → Type 0) → IsOkAnd answer P → 0 ≡ answer_status answer
-written (Ok output) P holds = refl
-written (Err ending) P holds = absurd holds
-
-refused_status : (command : Command) (found : Option (Result Document Refusal)) (refusal : Refusal) → IfSome found (λ f. f ≡ Err refusal)
-    → IfSome (option_map (written_of command) found) (λ answer. 3 ≡ answer_status answer)
-refused_status command None refusal is = tt
-refused_status command (Some found) refusal is = rw is refl
-
-stopped_status : (command : Command) (found : Result Document Refusal) (halt : Halt) → IsOkAnd found (λ d. halt_in d ≡ Some halt)
-    → 7 ≡ answer_status (written_of command found)
-stopped_status command (Ok document) halt is = rw is refl
-stopped_status command (Err refusal) halt is = absurd is
-
-all_stopped_status : (command : Command) (found : Option (Result Document Refusal)) (halt : Halt) → IfSome found (λ f. IsOkAnd f (λ d. halt_in d ≡ Some halt))
-    → IfSome (option_map (written_of command) found) (λ answer. 7 ≡ answer_status answer)
-all_stopped_status command None halt is = tt
-all_stopped_status command (Some found) halt is = stopped_status command found halt is
-
--- the status of an ending that is the answer
-judged : (command : Command) (found : Option (Result Document Refusal)) (input out : Change) (ending : Ending) → ending ≢ Usage
-    → Reason (Some command) found input out ending → status_of ending ≢ 4 → status_of ending ≢ 5 → status_of ending ≢ 6
-    → IfSome (answer_for (Some command) found) (λ answer. status_of ending ≡ answer_status answer)
-judged command found input out Done form reason read write memory =
-    if_some (answer_for (Some command) found) (λ answer. IsOkAnd answer (Appends out.old out.new)) (λ answer. 0 ≡ answer_status answer)
-    (λ answer. written answer (Appends out.old out.new)) reason.0
-judged command found input out Usage form reason read write memory = absurd (form refl)
-judged command found input out (Refused refusal) form reason read write memory = refused_status command found refusal reason
-judged command found input out ReadFault form reason read write memory = absurd (read refl)
-judged command found input out WriteFault form reason read write memory = absurd (write refl)
-judged command found input out Memory form reason read write memory = absurd (memory refl)
-judged command found input out (Panicked halt) form reason read write memory = all_stopped_status command found halt reason
-judged command found input out (NotPatched entry kind) form reason read write memory =
-    if_some (answer_for (Some command) found) (λ answer. answer ≡ Err (NotPatched entry kind)) (λ answer. 8 ≡ answer_status answer)
-    (λ answer is. rw is refl) reason
-judged command found input out (NotRead refused) form reason read write memory =
-    if_some (answer_for (Some command) found) (λ answer. answer ≡ Err (NotRead refused)) (λ answer. 9 ≡ answer_status answer)
-    (λ answer is. rw is refl) reason
-
-either : (answers : Option (Result (List ℕ) Ending)) (status : ℕ) → IfSome answers (λ answer. status ≡ answer_status answer)
-    → IfSome answers (λ answer. (status ≡ answer_status answer) ⊎ (status ≡ 6))
-either None status is = tt
-either (Some answer) status is = inl is
-
-always : {X : Type 0} (found : Option X) → IfSome found (λ x. Unit {0})
-always None = tt
-always (Some x) = tt
+judged : (command : Option Command) (answer : Answer) (input out : Change) (ending : Ending) → EndsSo command answer input out ending
+    → status_of ending ≢ 4 → status_of ending ≢ 5 → status_of ending ≢ 6 → status_of ending ≡ output_status answer.output
+judged command answer input out Done so read write memory = written answer.output (Appends out.old out.new) so.0
+judged command answer input out ReadFault so read write memory = absurd (read refl)
+judged command answer input out WriteFault so read write memory = absurd (write refl)
+judged command answer input out Memory so read write memory = absurd (memory refl)
+judged command answer input out (NoOutput reason) so read write memory = rw so refl
 
 -- where no stream failed that is used
-exact : (command : Command) (found : Option (Result Document Refusal)) (input out : Change) (ending : Ending) → ending ≢ Usage
-    → Reason (Some command) found input out ending → (reads_input (Some command) ≡ true → Rose input.before input.now → ⊥) → (Rose out.before out.now → ⊥)
-    → IfSome (answer_for (Some command) found) (λ answer. (status_of ending ≡ answer_status answer) ⊎ (status_of ending ≡ 6))
-exact command found input out ReadFault form reason read write = absurd (read reason.0 reason.1)
-exact command found input out WriteFault form reason read write = absurd (write reason.0)
-exact command found input out Memory form reason read write =
-    if_some (answer_for (Some command) found) (λ answer. Unit {0}) (λ answer. (6 ≡ answer_status answer) ⊎ (6 ≡ 6)) (λ answer is. inr refl)
-    (always (answer_for (Some command) found))
-exact command found input out Usage form reason read write = absurd (form refl)
-exact command found input out Done form reason read write =
-    either (answer_for (Some command) found) 0 (judged command found input out Done form reason (λ e. omega (arith, e)) (λ e. omega (arith, e)) (λ e. omega (arith, e)))
-exact command found input out (Refused refusal) form reason read write =
-    either (answer_for (Some command) found) 3 (judged command found input out (Refused refusal) form reason (λ e. omega (arith, e)) (λ e. omega (arith, e)) (λ e. omega (arith, e)))
-exact command found input out (Panicked halt) form reason read write =
-    either (answer_for (Some command) found) 7 (judged command found input out (Panicked halt) form reason (λ e. omega (arith, e)) (λ e. omega (arith, e)) (λ e. omega (arith, e)))
-exact command found input out (NotPatched entry kind) form reason read write =
-    either (answer_for (Some command) found) 8 (judged command found input out (NotPatched entry kind) form reason (λ e. omega (arith, e)) (λ e. omega (arith, e)) (λ e. omega (arith, e)))
-exact command found input out (NotRead refused) form reason read write =
-    either (answer_for (Some command) found) 9 (judged command found input out (NotRead refused) form reason (λ e. omega (arith, e)) (λ e. omega (arith, e)) (λ e. omega (arith, e)))
+exact : (command : Option Command) (answer : Answer) (input out : Change) (ending : Ending) → EndsSo command answer input out ending
+    → (ReadFails command input → ⊥) → (Rose out.before out.now → ⊥) → (status_of ending ≡ output_status answer.output) ⊎ (status_of ending ≡ 6)
+exact command answer input out Done so read write = inl (written answer.output (Appends out.old out.new) so.0)
+exact command answer input out ReadFault so read write = absurd (read so)
+exact command answer input out WriteFault so read write = absurd (write so.0)
+exact command answer input out Memory so read write = inr refl
+exact command answer input out (NoOutput reason) so read write = inl (rw so refl)
 
--- a run of `demo` ends with 0, 5 or 6
-abbrev pub EndsAsMade : Command → Ending → Type 0
-EndsAsMade command ending =
-    (seed cores : ℕ) → Some command ≡ Some (Demo seed cores) → (status_of ending ≡ 0) ⊎ ((5 ≤ status_of ending) × (status_of ending ≤ 6))
+-- an answer that brings no machine up leaves none
+none_left : (machines : List World) → AreMachinesOf [] machines → machines ≡ []
+none_left [] are = refl
+none_left (world ∷ others) are = absurd are
 
--- so it ends as any command can
-pub made_can : (command : Command) (ending : Ending) → (status_of ending ≡ 0) ⊎ ((5 ≤ status_of ending) × (status_of ending ≤ 6)) → CanEnd command ending
-made_can command ending ends = record {
-  patch = λ eight. absurd (omega (arith, low ends, eight));
-  mrs = λ nine. absurd (omega (arith, low ends, nine));
-}
-  where
-    low : (status_of ending ≡ 0) ⊎ ((5 ≤ status_of ending) × (status_of ending ≤ 6)) → status_of ending ≤ 6
-    low (inl zero) = omega (arith, zero)
-    low (inr some) = some.1
+-- no machine is left in the statuses 2 to 4
+no_machine : (command : Option Command) (answer : Answer) (input out : Change) (machines : List World) (ending : Ending) → EndsSo command answer input out ending
+    → Fits command answer → (ending ≢ ReadFault → ending ≢ Memory → AreMachinesOf answer.machines machines) → (ending ≡ ReadFault → machines ≡ [])
+    → (command ≡ None → answer.machines ≡ []) → 2 ≤ status_of ending → status_of ending ≤ 4 → machines ≡ []
+no_machine command answer input out machines Done so fit left none usage low high = absurd (omega (arith, low))
+no_machine command answer input out machines ReadFault so fit left none usage low high = none refl
+no_machine command answer input out machines WriteFault so fit left none usage low high = absurd (omega (arith, high))
+no_machine command answer input out machines Memory so fit left none usage low high = absurd (omega (arith, high))
+no_machine command answer input out machines (NoOutput Usage) so fit left none usage low high =
+    none_left machines (rw (usage (fit.usage so)) at (left (λ e. let no : ⊥ = cc in no) (λ e. let no : ⊥ = cc in no)))
+no_machine command answer input out machines (NoOutput (Refused refusal)) so fit left none usage low high =
+    none_left machines (rw (fit.refused refusal so) at (left (λ e. let no : ⊥ = cc in no) (λ e. let no : ⊥ = cc in no)))
+no_machine command answer input out machines (NoOutput (Panicked halt)) so fit left none usage low high = absurd (omega (arith, high))
+no_machine command answer input out machines (NoOutput (NotPatched entry kind)) so fit left none usage low high = absurd (omega (arith, high))
+no_machine command answer input out machines (NoOutput (NotRead refused)) so fit left none usage low high = absurd (omega (arith, high))
+
+status_fits : (command : Command) (answer : Answer) (input out : Change) (ending : Ending) → EndsSo (Some command) answer input out ending → Fits (Some command) answer
+    → can_end (Some command) (status_of ending) ≡ true
+status_fits command answer input out Done so fit = (stream_ends command).0
+status_fits command answer input out WriteFault so fit = (stream_ends command).1
+status_fits command answer input out Memory so fit = (stream_ends command).2
+status_fits command answer input out ReadFault so fit = read_ends command so.0
+status_fits command answer input out (NoOutput reason) so fit = fit.status reason so
 
 -- a run of a command
-pub promised : (words : List (List ℕ)) (command : Command) (input out err : Change) (machines : List World) (ending : Ending)
-    → command_of words ≡ Some command → Performs command (document_for (Some command) input.old) input out machines ending
-    → CanEnd command ending → (reads_input (Some command) ≡ false → Keeps input.old input.new) → GivesAtMost input.old input.new 537919489 → EndsAsMade command ending
-    → Tells ending err.old err.new err.before err.now → Promises words input out err machines (status_of ending)
-promised words command input out err machines ending is does can unread at_most made told =
-    let found : Option (Result Document Refusal) = document_for (Some command) input.old in
-    let at : (e : Ending) → ending ≡ e → Reason (Some command) found input out e =
-    λ e same. subst (λ (x : Ending). Reason (Some command) found input out x) same does.reason in record {
+pub promised : (command : Command) (input out err : Change) (machines : List World) (ending : Ending) → AreCoresGiven (Some command)
+    → Performs command input out machines ending → Tells ending err.old err.new err.before err.now → Promises (Some command) input out err machines (status_of ending)
+promised command input out err machines ending given does told =
+    let answer : Answer = answer_of command does.bytes in
+    let fit : Fits (Some command) answer = fits (Some command) does.bytes given in
+    let at : (e : Ending) → ending ≡ e → EndsSo (Some command) answer input out e =
+    λ e same. subst (λ (x : Ending). EndsSo (Some command) answer input out x) same does.reason in record {
+      bytes = does.bytes;
+      told_bytes = does.told_bytes;
       ending = ending;
       status_is = refl;
-      reason = rw is does.reason;
+      reason = does.reason;
       told = told;
-      usage = (λ two. absurd (does.form (usage_of ending two)), λ none. absurd (let no : ⊥ = cc in no));
-      unread = rw is unread;
-      read_at_most = at_most;
-      done = λ zero. rw is (at Done (done_of ending zero));
-      safe = λ zero. rw is (does.safe (done_of ending zero));
-      refused = λ three. rw is
-          (let refusal = refused_of ending three in
-          if_some found (λ one. one ≡ Err refusal.0) IsErr (λ one same. rw same refl) (at (Refused refusal.0) refusal.1));
-      read_fault = λ four. rw is (at ReadFault (read_fault_of ending four));
-      write_fault = λ five. rw is (at WriteFault (write_fault_of ending five));
-      stopped = λ seven. rw is
-          (let halt = panicked_of ending seven in
-          if_some found (λ one. IsOkAnd one (λ d. halt_in d ≡ Some halt.0)) (λ one. IsOkAnd one (λ d. IsSome (halt_in d)))
-          (λ one. if_ok_and one (λ d. halt_in d ≡ Some halt.0) (λ d. IsSome (halt_in d)) (λ d same. rw same refl)) (at (Panicked halt.0) halt.1));
-      not_patched = λ eight. rw is
-          (let refused = not_patched_of ending eight in
-          if_some (answer_for (Some command) found) (λ answer. answer ≡ Err (NotPatched refused.entry refused.kind)) IsPatchRefused
-          (λ answer same. (refused.entry, (refused.kind, same))) (at (NotPatched refused.entry refused.kind) refused.is));
-      not_read = λ nine. rw is
-          (let refused = not_read_of ending nine in
-          if_some (answer_for (Some command) found) (λ answer. answer ≡ Err (NotRead refused.0)) IsReadRefused (λ answer same. (refused.0, same)) (at (NotRead refused.0) refused.1));
+      statuses = status_fits command answer input out ending does.reason fit;
+      usage = (
+        λ two. absurd (let none = fit.usage (at (NoOutput Usage) (usage_of ending two)) in let no : ⊥ = cc in no),
+        λ none. absurd (let no : ⊥ = cc in no),
+      );
+      done = λ zero. at Done (done_of ending zero);
+      safe = λ zero. does.safe (done_of ending zero);
+      refused = λ three. let one = refused_of ending three in (one.0, fit.refused one.0 (at (NoOutput (Refused one.0)) one.1));
+      too_long = does.too_long;
+      read_fault = λ four. at ReadFault (read_fault_of ending four);
+      write_fault = λ five. at WriteFault (write_fault_of ending five);
+      stopped = λ seven. let one = panicked_of ending seven in fit.stopped one.0 (at (NoOutput (Panicked one.0)) one.1);
       silent = λ zero five. does.silent (λ same. zero (ap status_of same)) (λ same. five (ap status_of same));
-      machine = λ has. rw is (does.machine has);
-      no_machine = λ two four. does.no_machine four (λ same. omega (arith, two, ap status_of same));
-      judged = λ read write memory. rw is (judged command found input out ending does.form does.reason read write memory);
-      exact = λ read write. rw is (exact command found input out ending does.form does.reason (λ reads. read (rw is reads)) write);
-      statuses = statuses ending;
-      patch = λ eight. is ∙ ap Some (can.patch eight);
-      mrs = λ nine. let read = can.mrs nine in (read.0, (read.1.0, is ∙ ap Some read.1.1));
-      demo = λ seed cores same. made seed cores (sym is ∙ same);
+      unread = does.unread;
+      read_at_most = does.read_at_most;
+      machines_are = λ four six. does.machines_are (λ same. four (ap status_of same)) (λ same. six (ap status_of same));
+      no_machine = no_machine (Some command) answer input out machines ending does.reason fit does.machines_are does.no_machine (λ none. absurd (let no : ⊥ = cc in no));
+      judged = judged (Some command) answer input out ending does.reason;
+      exact = exact (Some command) answer input out ending does.reason;
     }
-
-keeps : (bytes : Option (List ℕ)) → Keeps bytes bytes
-keeps None = tt
-keeps (Some bytes) = refl
 
 -- an input of which nothing is read
 pub gives_none : (bytes : Option (List ℕ)) (n : ℕ) → GivesAtMost bytes bytes n
@@ -276,33 +154,30 @@ gives_none None n = record { part = []; count = omega (arith); given = tt }
 gives_none (Some bytes) n = record { part = []; count = omega (arith); given = refl }
 
 -- a run of words that are no form
-pub promised_nothing : (words : List (List ℕ)) (input out err : Change) (machines : List World)
-    → command_of words ≡ None → input.new ≡ input.old → out.new ≡ out.old → machines ≡ [] → Tells Usage err.old err.new err.before err.now
-    → Promises words input out err machines 2
-promised_nothing words input out err machines is same_input same_out none told =
-    let kept : Keeps input.old input.new = subst (λ (b : Option (List ℕ)). Keeps input.old b) (sym same_input) (keeps input.old) in record {
-      ending = Usage;
+pub promised_nothing : (input out err : Change) (machines : List World) → input.new ≡ input.old → out.new ≡ out.old → machines ≡ []
+    → Tells (NoOutput Usage) err.old err.new err.before err.now → Promises None input out err machines 2
+promised_nothing input out err machines same_input same_out none told =
+    let answer : Answer = answer_for None [] in record {
+      bytes = [];
+      told_bytes = λ reads. absurd (let no : ⊥ = cc in no);
+      ending = NoOutput Usage;
       status_is = refl;
-      reason = (is, kept);
+      reason = refl;
       told = told;
-      usage = (λ two. is, λ none. refl);
-      unread = λ none. kept;
-      read_at_most = subst (λ (b : Option (List ℕ)). GivesAtMost input.old b 537919489) (sym same_input) (gives_none input.old 537919489);
+      statuses = refl;
+      usage = (λ two. refl, λ same. refl);
       done = λ zero. absurd (omega (arith, zero));
       safe = λ zero. absurd (omega (arith, zero));
       refused = λ three. absurd (omega (arith, three));
+      too_long = λ limit same. absurd (let no : ⊥ = cc in no);
       read_fault = λ four. absurd (omega (arith, four));
       write_fault = λ five. absurd (omega (arith, five));
       stopped = λ seven. absurd (omega (arith, seven));
-      not_patched = λ eight. absurd (omega (arith, eight));
-      not_read = λ nine. absurd (omega (arith, nine));
       silent = λ zero five. subst (λ (b : Option (List ℕ)). Keeps out.old b) (sym same_out) (keeps out.old);
-      machine = λ has. absurd (let no : ⊥ = cc in no);
-      no_machine = λ two four. none;
-      judged = λ read write memory. rw is refl;
-      exact = λ read write. rw is (inl refl);
-      statuses = inr (lit≤ tt, lit≤ tt);
-      patch = λ eight. absurd (omega (arith, eight));
-      mrs = λ nine. absurd (omega (arith, nine));
-      demo = λ seed cores same. absurd (let no : ⊥ = cc in no);
+      unread = λ not_read. subst (λ (b : Option (List ℕ)). Keeps input.old b) (sym same_input) (keeps input.old);
+      read_at_most = subst (λ (b : Option (List ℕ)). GivesAtMost input.old b 0) (sym same_input) (gives_none input.old 0);
+      machines_are = λ four six. rw none tt;
+      no_machine = λ low high. none;
+      judged = λ read write memory. refl;
+      exact = λ read write. inl refl;
     }

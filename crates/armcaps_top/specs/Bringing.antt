@@ -9,7 +9,7 @@ use Rattle.armcaps_boot.specs.Outcome.{IsSafe}
 use Rattle.armcaps_board.specs.Steps.{history}
 use Rattle.armcaps_boot.specs.World.{World}
 use Rattle.armcaps_text.specs.Document.{Reading}
-use Rattle.armcaps_top.specs.Output.{board_of}
+use Rattle.armcaps_top.specs.Answer.{board_of}
 
 -- the board that a machine brings up
 abbrev pub board_in : World → Board

@@ -1,23 +1,32 @@
 -- What the parts of a run promise each other.
-use Rattle.std.specs.Prelude.{◌≡◌, ◌≢◌, ℕ, ◌≤◌, true, List, [], ◌∷◌, Option, Some, Result, Err, IfSome}
-use Rattle.armcaps_board.specs.declared.event.Event.{Event}
+use Rattle.std.specs.Prelude.{◌≡◌, ◌≢◌, ◌+◌, ℕ, ◌≤◌, true, false, List, [], ◌∷◌, ◌++◌, length, Option, Some, None, Result, Ok, Err, IfSome, IfOk, IfErr}
+use Rattle.armcaps_boot.specs.declared.halt.Halt.{Halt}
 use Rattle.armcaps_boot.specs.After.{IsAfter}
-use Rattle.armcaps_board.specs.Board.{Board}
-use Rattle.armcaps_boot.specs.Admission.{steps_made}
-use Rattle.armcaps_boot.specs.World.{World}
+use Rattle.armcaps_boot.specs.Admission.{halt_of, steps_made}
+use Rattle.armcaps_boot.specs.Findings.{findings_after, findings_of}
 use Rattle.armcaps_boot.specs.Outcome.{IsSafe}
+use Rattle.armcaps_boot.specs.World.{World}
+use Rattle.armcaps_board.specs.Steps.{history}
 use Rattle.armcaps_io.specs.Causes.{Rose}
-use Rattle.armcaps_io.specs.Streams.{Keeps}
-use Rattle.armcaps_top.specs.Document.{Document, document}
-use Rattle.armcaps_top.specs.Ending.{status_of}
-use Rattle.armcaps_top.specs.Output.{board_of}
-use Rattle.armcaps_top.specs.Run.{Change, IsDocumentAnd, LeavesMachine, Reason, has_machine, steps_of}
+use Rattle.armcaps_io.specs.Streams.{Appends, AppendsPrefix, GivesAtMost, GivesCount, Keeps}
+use Rattle.armcaps_report.specs.Settled.{AreSettled}
+use Rattle.armcaps_text.specs.Document.{Reading}
+use Rattle.armcaps_top.specs.Answer.{Answer, answer_of, board_of, of_document, unless_stopped}
+use Rattle.armcaps_top.specs.Document.{document}
+use Rattle.armcaps_top.specs.Run.{AreBytesOf, AreMachinesOf, AreSafe, Change, EndsSo, IsReadWhole, ReadFails, Writes, WritesPrefix, most_read, reads_input}
 use Rattle.armcaps_top.specs.declared.commands.Command.{Command}
-use Rattle.armcaps_top.specs.declared.commands.Command.TheVariants.{Ask, Patch}
-use Rattle.armcaps_top.specs.declared.commands.Query.TheVariants.{Mrs}
+use Rattle.armcaps_top.specs.declared.commands.Command.TheVariants.{Demo}
 use Rattle.armcaps_top.specs.declared.ending.Ending.{Ending}
+use Rattle.armcaps_top.specs.declared.ending.Ending.TheVariants.{Done, ReadFault, WriteFault, Memory, NoOutput}
+use Rattle.armcaps_top.specs.declared.reason.Reason.{Reason}
+use Rattle.armcaps_top.specs.declared.reason.Reason.TheVariants.{Refused, Panicked}
 use Rattle.armcaps_top.specs.declared.refusal.Refusal.{Refusal}
-use Rattle.armcaps_top.specs.declared.ending.Ending.TheVariants.{Done, Usage, Refused, ReadFault, WriteFault, Memory}
+use Rattle.armcaps_top.specs.declared.refusal.Refusal.TheVariants.{TooLong}
+
+-- the cores of `demo` are 1 to 64
+abbrev pub AreCoresGiven : Option Command → Type 0
+AreCoresGiven (Some (Demo seed cores)) = (1 ≤ cores) × (cores ≤ 64)
+AreCoresGiven _ = Unit {0}
 
 -- the source failed, or there was no memory
 abbrev pub IsFailure : ℕ → ℕ → Ending → Type 0
@@ -25,40 +34,118 @@ IsFailure before now ReadFault = Rose before now
 IsFailure before now Memory = Unit {0}
 IsFailure before now _ = ⊥
 
--- the input is refused so
-abbrev pub IsRefusedSo : Option (List ℕ) → Ending → Type 0
-IsRefusedSo input (Refused refusal) = IfSome input (λ bytes. document bytes ≡ Err refusal)
-IsRefusedSo input Memory = Unit {0}
-IsRefusedSo input _ = ⊥
+-- these bytes are refused so
+abbrev pub IsRefusedSo : List ℕ → Ending → Type 0
+IsRefusedSo bytes (NoOutput (Refused refusal)) = document bytes ≡ Err refusal
+IsRefusedSo bytes Memory = Unit {0}
+IsRefusedSo bytes _ = ⊥
+
+-- the bytes of an input, which are those that it tells, are no document
+pub record IsNoDocument (input : Option (List ℕ)) (refusal : Refusal) : Type 0 where
+  pub bytes : List ℕ
+  pub told : IfSome input (λ told. bytes ≡ told)
+  pub is : document bytes ≡ Err refusal
 
 -- why an input was not read whole
 abbrev pub IsUnread : Option (List ℕ) → ℕ → ℕ → Ending → Type 0
-IsUnread input before now (Refused refusal) = IfSome input (λ bytes. document bytes ≡ Err refusal)
+IsUnread input before now (NoOutput (Refused refusal)) = IsNoDocument input refusal
 IsUnread input before now ReadFault = Rose before now
 IsUnread input before now Memory = Unit {0}
 IsUnread input before now _ = ⊥
 
 -- the run ends so in place of an output, unless memory ran out
-abbrev pub IsInstead : Result (List ℕ) Ending → Ending → Type 0
-IsInstead answer Memory = Unit {0}
-IsInstead answer ending = answer ≡ Err ending
+abbrev pub IsInstead : Result (List ℕ) Reason → Ending → Type 0
+IsInstead output Memory = Unit {0}
+IsInstead output (NoOutput reason) = output ≡ Err reason
+IsInstead output _ = ⊥
 
--- what comes under one command alone: an entry that is refused under `patch`, and a read that is under `mrs`
-pub record CanEnd (command : Command) (ending : Ending) : Type 0 where
-  pub patch : status_of ending ≡ 8 → command ≡ Patch
-  pub mrs : status_of ending ≡ 9 → (core : ℕ) × ((word : ℕ) × (command ≡ Ask (Mrs core word)))
+-- the machine of a reading, all of whose steps were made, and none of which stopped it
+pub record IsThrough (reading : Reading) (world : World) : Type 0 where
+  pub machine : IsAfter (board_of reading) (steps_made (board_of reading) (history reading.steps)) world
+  pub going : halt_of (board_of reading) (history reading.steps) ≡ None
+  pub safe : IsSafe (board_of reading) (history reading.steps)
+  pub found : findings_of world ≡ findings_after (board_of reading) (history reading.steps)
+  pub final : world.final ≡ true
+  pub settled : AreSettled world.states
 
--- one machine is left, which is that of a board after these steps, up to one that stopped it
-abbrev pub LeavesAfter : Board → List Event → List World → Type 0
-LeavesAfter board steps [] = ⊥
-LeavesAfter board steps (world ∷ []) = IsAfter board (steps_made board steps) world
-LeavesAfter board steps (world ∷ next ∷ more) = ⊥
+-- the machine of a reading was brought up whole, and is left after those that were there
+pub record IsUp (reading : Reading) (old new : List World) : Type 0 where
+  pub world : World
+  pub left : new ≡ old ++ world ∷ []
+  pub through : IsThrough reading world
 
--- what a command that works on this does that ends so
-pub record Performs (command : Command) (found : Option (Result Document Refusal)) (input out : Change) (machines : List World) (ending : Ending) : Type 0 where
-  pub form : ending ≢ Usage
-  pub reason : Reason (Some command) found input out ending
-  pub safe : ending ≡ Done → IsDocumentAnd found (λ one. IsSafe (board_of one.reading) (steps_of one))
+-- the machine of a reading was brought up to the step that stopped it so, and is left after those that were there
+pub record IsHalted (reading : Reading) (reason : Reason) (old new : List World) : Type 0 where
+  pub world : World
+  pub left : new ≡ old ++ world ∷ []
+  pub machine : IsAfter (board_of reading) (steps_made (board_of reading) (history reading.steps)) world
+  pub stopped : (output : Result (List ℕ) Reason) → unless_stopped (halt_of (board_of reading) (history reading.steps)) output ≡ Err reason
+
+-- what stopped a machine, as it is answered
+abbrev pub IsHaltOf : Option Halt → Result (Unit {0}) Ending → Type 0
+IsHaltOf halt (Ok done) = halt ≡ None
+IsHaltOf halt (Err (NoOutput (Panicked stop))) = halt ≡ Some stop
+IsHaltOf halt (Err Memory) = Unit {0}
+IsHaltOf halt _ = ⊥
+
+-- why a machine was not brought up whole
+abbrev pub IsNotUp : Reading → List World → List World → Ending → Type 0
+IsNotUp reading old new (NoOutput reason) = IsHalted reading reason old new
+IsNotUp reading old new Memory = Unit {0}
+IsNotUp reading old new _ = ⊥
+
+-- an input was read to its end, if the command reads it, and these are its bytes
+pub record IsRead (command : Command) (input : Change) (bytes : List ℕ) : Type 0 where
+  pub told_bytes : AreBytesOf (Some command) input bytes
+  pub whole : IsReadWhole (Some command) input
+
+-- bytes that came of an input, which are all that it tells, are refused by the command for this reason
+pub record IsNotTaken (command : Command) (input : Change) (reason : Reason) : Type 0 where
+  pub bytes : List ℕ
+  pub told_bytes : AreBytesOf (Some command) input bytes
+  pub refused : answer_of command bytes ≡ record { machines = []; output = Err reason }
+
+-- why an input was not read whole
+abbrev pub IsNotRead : Command → Change → Ending → Type 0
+IsNotRead command input (NoOutput reason) = IsNotTaken command input reason
+IsNotRead command input ReadFault = ReadFails (Some command) input
+IsNotRead command input Memory = Unit {0}
+IsNotRead command input _ = ⊥
+
+-- what is made of an answer before it is written: its output, or how the run ends; its machines are left
+pub record Comes (answer : Answer) (machines : List World) (made : Result (List ℕ) Ending) : Type 0 where
+  pub output : IfOk made (λ text. answer.output ≡ Ok text)
+  pub instead : IfErr made (IsInstead answer.output)
+  pub machines_are : made ≢ Err Memory → AreMachinesOf answer.machines machines
+  pub safe : IfOk made (λ text. AreSafe answer.machines)
+
+-- the bytes of what was made, where something was
+abbrev pub as_bytes : {A : Type 0} → (A → List ℕ) → Result A Ending → Result (List ℕ) Ending
+as_bytes bytes (Ok made) = Ok (bytes made)
+as_bytes bytes (Err ending) = Err ending
+
+-- what is made of a reading under a query, whose document may have any image
+abbrev pub Answers : Command → Reading → List World → Result (List ℕ) Ending → Type 0
+Answers command reading machines made =
+    (image : List ℕ) → Comes (of_document command (Ok (record { reading = reading; image = image }))) machines made
+
+-- what became of an answer: how it was written, or how the run ends in its place
+pub record Ends (command : Command) (answer : Answer) (out : Change) (machines : List World) (ending : Ending) : Type 0 where
+  pub so : (input : Change) → IsReadWhole (Some command) input → EndsSo (Some command) answer input out ending
+  pub read : ending ≢ ReadFault
+  pub safe : ending ≡ Done → AreSafe answer.machines
   pub silent : ending ≢ Done → ending ≢ WriteFault → Keeps out.old out.new
-  pub machine : has_machine (status_of ending) ≡ true → LeavesMachine found machines
-  pub no_machine : status_of ending ≤ 4 → ending ≢ Done → machines ≡ []
+  pub machines_are : ending ≢ Memory → AreMachinesOf answer.machines machines
+
+-- what a command does that ends so
+pub record Performs (command : Command) (input out : Change) (machines : List World) (ending : Ending) : Type 0 where
+  pub bytes : List ℕ
+  pub told_bytes : AreBytesOf (Some command) input bytes
+  pub reason : EndsSo (Some command) (answer_of command bytes) input out ending
+  pub safe : ending ≡ Done → AreSafe (answer_of command bytes).machines
+  pub too_long : (limit : ℕ) → ending ≡ NoOutput (Refused (TooLong limit)) → GivesCount input.old input.new (limit + 1)
+  pub silent : ending ≢ Done → ending ≢ WriteFault → Keeps out.old out.new
+  pub unread : reads_input (Some command) ≡ false → Keeps input.old input.new
+  pub read_at_most : GivesAtMost input.old input.new (most_read (Some command))
+  pub machines_are : ending ≢ ReadFault → ending ≢ Memory → AreMachinesOf (answer_of command bytes).machines machines
+  pub no_machine : ending ≡ ReadFault → machines ≡ []

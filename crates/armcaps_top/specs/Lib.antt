@@ -4,7 +4,7 @@ pub mod Mrs
 pub mod Trace
 pub mod Patch
 pub mod Demo
-pub mod Output
+pub mod Answer
 pub mod Ending
 pub mod Telling
 pub mod Run

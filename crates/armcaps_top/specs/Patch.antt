@@ -11,23 +11,27 @@ use Rattle.armcaps_board.specs.Board.{Board}
 use Rattle.armcaps_boot.specs.Findings.{findings_after}
 use Rattle.armcaps_patch.specs.Features.{features_of_findings}
 use Rattle.armcaps_text.specs.Document.{Reading}
-use Rattle.armcaps_top.specs.declared.ending.Ending.{Ending}
-use Rattle.armcaps_top.specs.declared.ending.Ending.TheVariants.{NotPatched}
+use Rattle.armcaps_top.specs.declared.reason.Reason.{Reason}
+use Rattle.armcaps_top.specs.declared.reason.Reason.TheVariants.{NotPatched}
 
 -- the text of a refused entry, as `entry 0: kind 8 literal`
 unfoldable pub entry_text : ℕ → PatchKind → List ℕ
 entry_text entry kind = codes "entry " ++ decimal entry ++ codes ": kind " ++ decimal (kind_number kind) ++ codes " " ++ kind_word kind
 
 -- the image, unless an entry is refused
-abbrev pub unless_entry_refused : Option alternatives.Refusal → List ℕ → Result (List ℕ) Ending
+abbrev pub unless_entry_refused : Option alternatives.Refusal → List ℕ → Result (List ℕ) Reason
 unless_entry_refused None image = Ok image
 unless_entry_refused (Some refusal) image = Err (NotPatched refusal.entry refusal.kind)
 
 -- the image patched by what the machine has
-abbrev pub patched_by : Features → Reading → List ℕ → Result (List ℕ) Ending
+abbrev pub patched_by : Features → Reading → List ℕ → Result (List ℕ) Reason
 patched_by features reading image =
     unless_entry_refused (first_refusal features image reading.layout) (patched_image features image reading.layout)
 
 -- the image patched once all steps of a board are made
-abbrev pub patch_output : Board → List Event → Reading → List ℕ → Result (List ℕ) Ending
+abbrev pub patch_output : Board → List Event → Reading → List ℕ → Result (List ℕ) Reason
 patch_output board steps reading image = patched_by (features_of_findings (findings_after board steps) reading.names) reading image
+
+-- the patched image of what a reading brings up
+abbrev pub image_for : Board → List Event → Reading → List ℕ → List ℕ
+image_for board steps reading image = patched_image (features_of_findings (findings_after board steps) reading.names) image reading.layout

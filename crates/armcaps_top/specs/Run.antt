@@ -1,79 +1,52 @@
--- What a run does with its words and its input. Words, statuses and texts are this project's own.
-use Rattle.std.specs.Prelude.{◌≡◌, ◌≢◌, ◌↔◌, ◌⊎◌, ◌==◌, ◌||◌, ◌≤◌, ℕ, Bool, true, false, List, [], ◌∷◌, Option, None, Some, Result, Ok, Err, IfSome, IsSome}
-use Rattle.std.specs.Option.{option_map}
-use Rattle.std.specs.Result.{IsOkAnd, IsErr}
-use Rattle.armcaps_tables.specs.Core.{Core}
-use Rattle.armcaps_alt.specs.declared.patch_kind.PatchKind.{PatchKind}
-use Rattle.armcaps_board.specs.declared.event.Event.{Event}
-use Rattle.armcaps_boot.specs.declared.halt.Halt.{Halt}
-use Rattle.armcaps_boot.specs.After.{IsAfter}
-use Rattle.armcaps_boot.specs.Admission.{admitted_of, halt_of, steps_made}
-use Rattle.armcaps_boot.specs.Outcome.{IsSafe}
-use Rattle.armcaps_board.specs.Steps.{history}
-use Rattle.armcaps_boot.specs.World.{World}
+-- What a run does with its words, its input and its streams. Words, statuses and limits are this project's own.
+use Rattle.std.specs.Prelude.{◌≡◌, ◌≢◌, ◌↔◌, ◌⊎◌, ◌≤◌, ◌+◌, ℕ, Bool, true, false, nat_lt, List, [], ◌∷◌, Option, None, Some, Result, Ok, Err, IfSome, is_some}
+use Rattle.std.specs.List.{list_any}
+use Rattle.std.specs.Prelude.{nat_eq}
+use Rattle.std.specs.Result.{IsOkAnd}
 use Rattle.armcaps_io.specs.Causes.{Rose}
-use Rattle.armcaps_io.specs.Streams.{Appends, AppendsPrefix, GivesAtMost, Keeps}
-use Rattle.armcaps_top.specs.Commands.{command_of}
-use Rattle.armcaps_top.specs.Demo.{demo_output, generated_document}
-use Rattle.armcaps_top.specs.Document.{Document, document}
-use Rattle.armcaps_top.specs.Ending.{status_of}
-use Rattle.armcaps_top.specs.Output.{board_of, output_of, unless_stopped}
-use Rattle.armcaps_top.specs.Patch.{patch_output}
+use Rattle.armcaps_io.specs.Streams.{Appends, AppendsPrefix, GivesAtMost, GivesCount, Keeps}
+use Rattle.armcaps_boot.specs.After.{IsAfter}
+use Rattle.armcaps_boot.specs.Admission.{steps_made}
+use Rattle.armcaps_boot.specs.Outcome.{IsSafe}
+use Rattle.armcaps_boot.specs.World.{World}
+use Rattle.armcaps_top.specs.Answer.{Answer, answer_for, board_of, halt_in, refused, steps_of}
+use Rattle.armcaps_top.specs.Document.{Document}
+use Rattle.armcaps_top.specs.Ending.{output_status, status_of}
 use Rattle.armcaps_top.specs.Telling.{Tells}
 use Rattle.armcaps_top.specs.declared.commands.Command.{Command}
 use Rattle.armcaps_top.specs.declared.commands.Command.TheVariants.{Ask, Patch, Demo}
-use Rattle.armcaps_top.specs.declared.commands.Query.TheVariants.{Mrs}
-use Rattle.armcaps_top.specs.declared.commands.mrs.ReadRefused.{ReadRefused}
+use Rattle.armcaps_top.specs.declared.commands.Query.TheVariants.{Report, Mrs, Trace}
 use Rattle.armcaps_top.specs.declared.ending.Ending.{Ending}
-use Rattle.armcaps_top.specs.declared.ending.Ending.TheVariants.{Done, Usage, Refused, ReadFault, WriteFault, Memory, Panicked, NotPatched, NotRead}
+use Rattle.armcaps_top.specs.declared.ending.Ending.TheVariants.{Done, ReadFault, WriteFault, Memory, NoOutput}
+use Rattle.armcaps_top.specs.declared.reason.Reason.{Reason}
+use Rattle.armcaps_top.specs.declared.reason.Reason.TheVariants.{Refused}
 use Rattle.armcaps_top.specs.declared.refusal.Refusal.{Refusal}
+use Rattle.armcaps_top.specs.declared.refusal.Refusal.TheVariants.{TooLong}
 
--- the steps of a document, the newest first
-abbrev pub steps_of : Document → List Event
-steps_of found = history found.reading.steps
+-- of its input a command reads at most so many bytes: one more than the greatest limit, which is that of format 2; nothing where
+-- the words are no form, and nothing under `demo`
+abbrev pub most_read : Option Command → ℕ
+most_read None = 0
+most_read (Some (Ask query)) = 537919489
+most_read (Some Patch) = 537919489
+most_read (Some (Demo seed cores)) = 0
 
--- what stops the machine of a document, if a step of it does
-abbrev pub halt_in : Document → Option Halt
-halt_in found = halt_of (board_of found.reading) (steps_of found)
-
--- the cores of a document that were ever admitted
-abbrev pub admitted_in : Document → List Core
-admitted_in found = admitted_of (board_of found.reading) (steps_of found)
-
--- what a command writes of a document where no step stops its machine
-abbrev pub output_in : Command → Document → Result (List ℕ) Ending
-output_in (Ask query) found = output_of query (board_of found.reading) (steps_of found)
-output_in Patch found = patch_output (board_of found.reading) (steps_of found) found.reading found.image
-output_in (Demo seed cores) found = Ok (demo_output seed cores (board_of found.reading) (steps_of found) found.reading found.image)
-
--- what is written of a document, or why an input is none
-abbrev pub written_of : Command → Result Document Refusal → Result (List ℕ) Ending
-written_of command (Ok found) = unless_stopped (halt_in found) (output_in command found)
-written_of command (Err refusal) = Err (Refused refusal)
-
--- the command reads the input
+-- the command reads its input
 abbrev pub reads_input : Option Command → Bool
-reads_input None = false
-reads_input (Some (Ask query)) = true
-reads_input (Some Patch) = true
-reads_input (Some (Demo seed cores)) = false
+reads_input command = nat_lt 0 (most_read command)
 
--- what a command works on: the document that the input is, where its bytes are told; `demo` on one that is made from its words alone
-abbrev pub document_for : Option Command → Option (List ℕ) → Option (Result Document Refusal)
-document_for None input = None
-document_for (Some (Ask query)) input = option_map document input
-document_for (Some Patch) input = option_map document input
-document_for (Some (Demo seed cores)) input = Some (Ok (generated_document seed cores))
+-- the statuses that can come under a command
+abbrev pub statuses_of : Option Command → List ℕ
+statuses_of None = 2 ∷ []
+statuses_of (Some (Ask Report)) = 0 ∷ 3 ∷ 4 ∷ 5 ∷ 6 ∷ 7 ∷ []
+statuses_of (Some (Ask Trace)) = 0 ∷ 3 ∷ 4 ∷ 5 ∷ 6 ∷ 7 ∷ []
+statuses_of (Some (Ask (Mrs core word))) = 0 ∷ 3 ∷ 4 ∷ 5 ∷ 6 ∷ 7 ∷ 9 ∷ []
+statuses_of (Some Patch) = 0 ∷ 3 ∷ 4 ∷ 5 ∷ 6 ∷ 7 ∷ 8 ∷ []
+statuses_of (Some (Demo seed cores)) = 0 ∷ 5 ∷ 6 ∷ []
 
--- what is written under a command of what it works on, or else how the run ends
-abbrev pub answer_for : Option Command → Option (Result Document Refusal) → Option (Result (List ℕ) Ending)
-answer_for None found = Some (Err Usage)
-answer_for (Some command) found = option_map (written_of command) found
-
--- the status of such an answer
-abbrev pub answer_status : Result (List ℕ) Ending → ℕ
-answer_status (Ok output) = 0
-answer_status (Err ending) = status_of ending
+-- the status can come under the command
+abbrev pub can_end : Option Command → ℕ → Bool
+can_end command status = list_any (nat_eq status) (statuses_of command)
 
 -- a stream before and after a call: its bytes, where it tells them, and how often it failed
 pub record Change : Type 0 where
@@ -82,98 +55,98 @@ pub record Change : Type 0 where
   pub before : ℕ
   pub now : ℕ
 
--- this holds of the document that is found, where it is told
-abbrev pub IsDocumentAnd : Option (Result Document Refusal) → (Document → Type 0) → Type 0
-IsDocumentAnd found P = IfSome found (λ one. IsOkAnd one P)
+-- what changed of a stream that was this and is that
+abbrev pub change : {A : Type 0} → (A → Option (List ℕ)) → (A → ℕ) → A → A → Change
+change bytes faults old new = record { old = bytes old; new = bytes new; before = faults old; now = faults new }
 
--- what is written was added to the output, where it is told: whole, or a first part of it
-abbrev pub Writes : Option (Result (List ℕ) Ending) → Change → Type 0
-Writes answer out = IfSome answer (λ one. IsOkAnd one (Appends out.old out.new))
+-- what is written was added to the output whole
+abbrev pub Writes : Answer → Change → Type 0
+Writes answer out = IsOkAnd answer.output (Appends out.old out.new)
 
-abbrev pub WritesPrefix : Option (Result (List ℕ) Ending) → Change → Type 0
-WritesPrefix answer out = IfSome answer (λ one. IsOkAnd one (AppendsPrefix out.old out.new))
+-- a first part of what is written was added to the output
+abbrev pub WritesPrefix : Answer → Change → Type 0
+WritesPrefix answer out = IsOkAnd answer.output (AppendsPrefix out.old out.new)
 
--- all of the input was read, where its bytes are told
-abbrev pub IsReadWhole : Change → Type 0
-IsReadWhole input = IfSome input.old (λ bytes. input.new ≡ Some [])
+-- these are the bytes of an input that is read, where it tells them
+abbrev pub AreBytesOf : Option Command → Change → List ℕ → Type 0
+AreBytesOf command input bytes = reads_input command ≡ true → IfSome input.old (λ told. bytes ≡ told)
 
--- why a run ends so under a command that works on this
-abbrev pub Reason : Option Command → Option (Result Document Refusal) → Change → Change → Ending → Type 0
-Reason command found input out Done = Writes (answer_for command found) out × (reads_input command ≡ true → IsReadWhole input)
-Reason command found input out Usage = (command ≡ None) × Keeps input.old input.new
-Reason command found input out (Refused refusal) = IfSome found (λ one. one ≡ Err refusal)
-Reason command found input out ReadFault = (reads_input command ≡ true) × Rose input.before input.now
-Reason command found input out WriteFault = Rose out.before out.now × WritesPrefix (answer_for command found) out
-Reason command found input out Memory = Unit {0}
-Reason command found input out (Panicked halt) = IsDocumentAnd found (λ one. halt_in one ≡ Some halt)
-Reason command found input out (NotPatched entry kind) = IfSome (answer_for command found) (λ one. one ≡ Err (NotPatched entry kind))
-Reason command found input out (NotRead refused) = IfSome (answer_for command found) (λ one. one ≡ Err (NotRead refused))
+-- an input that is read was read to its end
+abbrev pub IsReadWhole : Option Command → Change → Type 0
+IsReadWhole command input = reads_input command ≡ true → IfSome input.old (λ told. input.new ≡ Some [])
+
+-- an input that is read failed in this call
+abbrev pub ReadFails : Option Command → Change → Type 0
+ReadFails command input = (reads_input command ≡ true) × Rose input.before input.now
+
+-- why a run ends so under a command that makes this of its input
+abbrev pub EndsSo : Option Command → Answer → Change → Change → Ending → Type 0
+EndsSo command answer input out Done = Writes answer out × IsReadWhole command input
+EndsSo command answer input out ReadFault = ReadFails command input
+EndsSo command answer input out WriteFault = Rose out.before out.now × WritesPrefix answer out
+EndsSo command answer input out Memory = Unit {0}
+EndsSo command answer input out (NoOutput reason) = answer.output ≡ Err reason
 
 -- the machine of a document: its steps were made in their order, up to one that stopped it
 abbrev pub IsMachineOf : Document → World → Type 0
 IsMachineOf found world = IsAfter (board_of found.reading) (steps_made (board_of found.reading) (steps_of found)) world
 
--- one machine is left, which is that of the document
-abbrev pub LeavesMachine : Option (Result Document Refusal) → List World → Type 0
-LeavesMachine found [] = ⊥
-LeavesMachine found (world ∷ []) = IsDocumentAnd found (λ one. IsMachineOf one world)
-LeavesMachine found (world ∷ next ∷ more) = ⊥
+-- these are the machines of these documents, one for one and in their order
+abbrev pub AreMachinesOf : List Document → List World → Type 0
+AreMachinesOf [] [] = Unit {0}
+AreMachinesOf [] (world ∷ others) = ⊥
+AreMachinesOf (found ∷ more) [] = ⊥
+AreMachinesOf (found ∷ more) (world ∷ others) = IsMachineOf found world × AreMachinesOf more others
 
--- the answer is that an entry of the table is refused
-abbrev pub IsPatchRefused : Result (List ℕ) Ending → Type 0
-IsPatchRefused answer = (entry : ℕ) × ((kind : PatchKind) × (answer ≡ Err (NotPatched entry kind)))
+-- of each document: each system feature that is enabled is had by every admitted core, each workaround that an admitted core needs
+-- is enabled, and a core with steps is admitted, or parked by its first cause
+abbrev pub AreSafe : List Document → Type 0
+AreSafe [] = Unit {0}
+AreSafe (found ∷ more) = IsSafe (board_of found.reading) (steps_of found) × AreSafe more
 
--- a run that ends with this status has brought a machine up
-abbrev pub has_machine : ℕ → Bool
-has_machine status = (status == 0) || (status == 5) || (status == 7) || (status == 8) || (status == 9)
+-- a step of one of the documents stops its machine
+abbrev pub is_some_stopped : List Document → Bool
+is_some_stopped machines = list_any (λ found. is_some (halt_in found)) machines
 
--- the answer is that nothing is read
-abbrev pub IsReadRefused : Result (List ℕ) Ending → Type 0
-IsReadRefused answer = (refused : ReadRefused) × (answer ≡ Err (NotRead refused))
+-- the input is refused, and brings no machine up
+abbrev pub IsRefused : Answer → Type 0
+IsRefused answer = (refusal : Refusal) × (answer ≡ refused refusal)
 
--- what a run promises of its words, its input, the output and the error stream, the machines that it leaves, and its status
-pub record Promises (words : List (List ℕ)) (input out err : Change) (machines : List World) (status : ℕ) : Type 0 where
+-- what a run promises of a command, its input, the output and the error stream, the machines that it leaves, and its status; no
+-- command where the words are no form of one
+pub record Promises (command : Option Command) (input out err : Change) (machines : List World) (status : ℕ) : Type 0 where
+  -- the bytes of the input, which the command works on
+  pub bytes : List ℕ
+  pub told_bytes : AreBytesOf command input bytes
   -- there is an ending whose status and reason these are, and whose line the error stream got
   pub ending : Ending
   pub status_is : status ≡ status_of ending
-  pub reason : Reason (command_of words) (document_for (command_of words) input.old) input out ending
+  pub reason : EndsSo command (answer_for command bytes) input out ending
   pub told : Tells ending err.old err.new err.before err.now
-  -- the words are no form
-  pub usage : (status ≡ 2) ↔ (command_of words ≡ None)
-  -- where they are none, and where the command reads no input, the input is as it was
-  pub unread : reads_input (command_of words) ≡ false → Keeps input.old input.new
-  -- of no input more is read than one byte past 537,919,488, the greatest limit of a format
-  pub read_at_most : GivesAtMost input.old input.new 537919489
-  -- the output got what the command writes of the document that it works on, and nothing else; a command that reads read the whole input
-  pub done : status ≡ 0 → Writes (answer_for (command_of words) (document_for (command_of words) input.old)) out
-      × (reads_input (command_of words) ≡ true → IsReadWhole input)
-  -- of that document: each enabled system feature is had by every admitted core, each workaround that an admitted core needs is
-  -- enabled, and a core with steps is admitted, or parked by its first cause
-  pub safe : status ≡ 0 → IsDocumentAnd (document_for (command_of words) input.old) (λ found. IsSafe (board_of found.reading) (steps_of found))
-  -- the input's bytes are no document
-  pub refused : status ≡ 3 → IfSome (document_for (command_of words) input.old) IsErr
-  -- the input, which the command reads, or the output, failed in this call; the output got a first part of what the command writes
-  pub read_fault : status ≡ 4 → (reads_input (command_of words) ≡ true) × Rose input.before input.now
-  pub write_fault : status ≡ 5 → Rose out.before out.now × WritesPrefix (answer_for (command_of words) (document_for (command_of words) input.old)) out
-  -- the input is a document of which a step stops the machine
-  pub stopped : status ≡ 7 → IsDocumentAnd (document_for (command_of words) input.old) (λ found. IsSome (halt_in found))
-  -- an entry of the table is refused
-  pub not_patched : status ≡ 8 → IfSome (answer_for (command_of words) (document_for (command_of words) input.old)) IsPatchRefused
-  -- the core of `mrs` is not admitted, or its word reads no register
-  pub not_read : status ≡ 9 → IfSome (answer_for (command_of words) (document_for (command_of words) input.old)) IsReadRefused
+  -- only these statuses come, and 2 just where the words are no form
+  pub statuses : can_end command status ≡ true
+  pub usage : (status ≡ 2) ↔ (command ≡ None)
+  -- the output got what the command writes, and nothing else; an input that is read was read whole; and what can be relied on
+  pub done : status ≡ 0 → Writes (answer_for command bytes) out × IsReadWhole command input
+  pub safe : status ≡ 0 → AreSafe (answer_for command bytes).machines
+  -- the input is refused, as of one byte more than a limit that it passes
+  pub refused : status ≡ 3 → IsRefused (answer_for command bytes)
+  pub too_long : (limit : ℕ) → ending ≡ NoOutput (Refused (TooLong limit)) → GivesCount input.old input.new (limit + 1)
+  -- the input failed in this call; or the output, which got a first part of what the command writes
+  pub read_fault : status ≡ 4 → ReadFails command input
+  pub write_fault : status ≡ 5 → Rose out.before out.now × WritesPrefix (answer_for command bytes) out
+  -- a step stops a machine
+  pub stopped : status ≡ 7 → is_some_stopped (answer_for command bytes).machines ≡ true
   -- in every status but 0 and 5 the output got nothing
   pub silent : status ≢ 0 → status ≢ 5 → Keeps out.old out.new
-  -- one machine is left, that of the document; none where the input is no document or was not read
-  pub machine : has_machine status ≡ true → LeavesMachine (document_for (command_of words) input.old) machines
+  -- an input that is not read is as it was, and of none more is read than the command may
+  pub unread : reads_input command ≡ false → Keeps input.old input.new
+  pub read_at_most : GivesAtMost input.old input.new (most_read command)
+  -- the machines that are left are those that the command brings up; there are none in the statuses 2 to 4
+  pub machines_are : status ≢ 4 → status ≢ 6 → AreMachinesOf (answer_for command bytes).machines machines
   pub no_machine : 2 ≤ status → status ≤ 4 → machines ≡ []
-  -- each status but 4, 5 and 6 is that of the answer
-  pub judged : status ≢ 4 → status ≢ 5 → status ≢ 6
-      → IfSome (answer_for (command_of words) (document_for (command_of words) input.old)) (λ answer. status ≡ answer_status answer)
+  -- each status but 4, 5 and 6 is that of what the command writes, or of the reason why it writes nothing
+  pub judged : status ≢ 4 → status ≢ 5 → status ≢ 6 → status ≡ output_status (answer_for command bytes).output
   -- and it is so where neither the output failed nor an input that is read, unless there was no memory
-  pub exact : (reads_input (command_of words) ≡ true → Rose input.before input.now → ⊥) → (Rose out.before out.now → ⊥)
-      → IfSome (answer_for (command_of words) (document_for (command_of words) input.old)) (λ answer. (status ≡ answer_status answer) ⊎ (status ≡ 6))
-  pub statuses : (status ≡ 0) ⊎ ((2 ≤ status) × (status ≤ 9))
-  -- 8 comes under `patch` alone, 9 under `mrs` alone, and under `demo` 0, 5 and 6 alone come
-  pub patch : status ≡ 8 → command_of words ≡ Some Patch
-  pub mrs : status ≡ 9 → (core : ℕ) × ((word : ℕ) × (command_of words ≡ Some (Ask (Mrs core word))))
-  pub demo : (seed cores : ℕ) → command_of words ≡ Some (Demo seed cores) → (status ≡ 0) ⊎ ((5 ≤ status) × (status ≤ 6))
+  pub exact : ¬ ReadFails command input → ¬ Rose out.before out.now
+      → (status ≡ output_status (answer_for command bytes).output) ⊎ (status ≡ 6)

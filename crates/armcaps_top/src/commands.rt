@@ -1,25 +1,18 @@
 //! The commands, and the words that name them.
 
-ghost use Rattle.std.specs.Prelude.{◌≡◌, ◌≢◌, Ok, Err, IfOk, IfErr, true, length, map, reverse, string_bytes};
-ghost use Rattle.armcaps_boot.specs.After.{IsAfter};
-ghost use Rattle.armcaps_boot.specs.Admission.{steps_made};
-ghost use Rattle.armcaps_board.specs.Order.{is_complete};
-ghost use Rattle.armcaps_top.specs.Bringing.{IsAt, board_in};
-ghost use Rattle.armcaps_top.specs.Inside.{IsInstead};
-ghost use Rattle.armcaps_top.specs.Output.{output_after};
+ghost use Rattle.std.specs.Prelude.{◌≡◌, map, string_bytes};
 ghost use Rattle.armcaps_top.specs.Commands.{bounded_number, command_named, command_of, command_of_two, core_number, demo_of, instruction_word, mrs_of};
 ghost use Rattle.armcaps_top.specs.Commands.{cores_number, seed_number};
+ghost use Rattle.armcaps_top.specs.Inside.{AreCoresGiven};
 
+pub mod ask;
 pub mod demo;
 pub mod mrs;
 pub mod patch;
 pub mod report;
 pub mod trace;
 
-use crate::ending::Ending;
-use armcaps_boot::{Boot, Event};
 use armcaps_lex::{decimal, hexadecimal};
-use std::alloc::Global;
 
 /// What is asked of a machine alone.
 #[derive(Clone, Copy)]
@@ -47,30 +40,13 @@ impl Command {
     /// The command that words are a form of.
     #[tactic(auto, unfolding(crate::specs::Commands::command_of))]
     pub fn of(words: &[String]) -> Option<Command>
-        ensures { result ≡ command_of (map string_bytes words.now) }
+        ensures command { result ≡ command_of (map string_bytes words.now) }
+        ensures cores { AreCoresGiven (command_of (map string_bytes words.now)) }
     {
         match words {
             [name] => command_named(name.as_str()),
             [name, first, second] => command_of_two(name.as_str(), first.as_str(), second.as_str()),
             _ => None,
-        }
-    }
-}
-
-impl Query {
-    /// Makes the steps in their order up to one that stops the machine, and makes what is written, or says how the run
-    /// ends.
-    pub fn output(self, alloc: Global, boot: &mut Boot, events: &[Event]) -> Result<String, Ending>
-        requires begins { IsAt 0 events.now (board_in boot.old) boot.old }
-        requires complete { is_complete (length boot.old.cores) (reverse events.now) ≡ true }
-        ensures output { IfOk result (λ text. output_after self (board_in boot.old) (reverse events.now) ≡ Ok (string_bytes text)) }
-        ensures instead { IfErr result (IsInstead (output_after self (board_in boot.old) (reverse events.now))) }
-        ensures machine { result ≢ Err Ending.Memory → IsAfter (board_in boot.old) (steps_made (board_in boot.old) (reverse events.now)) boot.new }
-    {
-        match self {
-            Query::Report => report::report_output(alloc, boot, events),
-            Query::Mrs { core, word } => mrs::read_output(alloc, core, word, boot, events),
-            Query::Trace => trace::trace_output(alloc, boot, events),
         }
     }
 }

@@ -1,6 +1,6 @@
 //! What an input is.
 
-ghost use Rattle.std.specs.Prelude.{◌≡◌, ◌≤◌, ◌+◌, IfOk, IfErr, Ok, Some, drop, length};
+ghost use Rattle.std.specs.Prelude.{◌≡◌, ◌≤◌, ◌+◌, IfOk, IfErr, Ok, drop, length};
 ghost use Rattle.armcaps_text.specs.Document.{reading_of};
 ghost use Rattle.armcaps_text.specs.Formats.{format_of};
 ghost use Rattle.armcaps_text.specs.Sound.{IsSound};
@@ -8,6 +8,7 @@ ghost use Rattle.armcaps_top.specs.Document.{document, image_refusal};
 ghost use Rattle.armcaps_top.specs.Inside.{IsRefusedSo};
 
 use crate::ending::Ending;
+use crate::reason::Reason;
 use crate::refusal::Refusal;
 use armcaps_text::{Machine, TextRefused};
 use std::alloc::Global;
@@ -37,17 +38,17 @@ pub fn machine_of(alloc: Global, bytes: &[u8]) -> Result<(Machine, usize), Endin
     ensures document { IfOk result (λ read. document bytes.now ≡ Ok (record { reading = reading_of read.0; image = drop read.1 bytes.now })) }
     ensures sound { IfOk result (λ read. IsSound (reading_of read.0)) }
     ensures whole { IfOk result (λ read. read.1 + read.0.image ≡ length bytes.now) }
-    ensures refused { IfErr result (λ ending. IsRefusedSo (Some bytes.now) ending) }
+    ensures refused { IfErr result (IsRefusedSo bytes.now) }
 {
     let (machine, place) = match Machine::read(alloc, bytes) {
         Ok(read) => read,
         Err(TextRefused::Line { line, kind }) => {
-            return Err(Ending::Refused(Refusal::Line { line, kind }));
+            return Err(Ending::NoOutput(Reason::Refused(Refusal::Line { line, kind })));
         }
         Err(TextRefused::Memory) => return Err(Ending::Memory),
     };
     match image_refusal(machine.image, bytes.len() - place) {
         None => Ok((machine, place)),
-        Some(refusal) => Err(Ending::Refused(refusal)),
+        Some(refusal) => Err(Ending::NoOutput(Reason::Refused(refusal))),
     }
 }

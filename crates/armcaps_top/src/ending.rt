@@ -1,33 +1,22 @@
-//! How a run ends: its status, and its line on the error stream.
+//! How a run ends, and its status.
 
 ghost use Rattle.std.specs.Prelude.{◌≡◌};
 
-use crate::commands::mrs::ReadRefused;
-use crate::refusal::Refusal;
-use armcaps_alt::PatchKind;
-use armcaps_boot::Halt;
+use crate::reason::Reason;
 
 /// How a run ends.
 #[derive(Clone, Copy)]
 pub enum Ending {
     /// The whole output was written.
     Done,
-    /// The words are no form of a command.
-    Usage,
-    /// The input is no document.
-    Refused(Refusal),
     /// The input failed.
     ReadFault,
     /// The output failed.
     WriteFault,
     /// There was no memory.
     Memory,
-    /// A step stopped the machine.
-    Panicked(Halt),
-    /// This entry of the table is the first that is refused, for this kind.
-    NotPatched { entry: u32, kind: PatchKind },
-    /// A program reads nothing there.
-    NotRead(ReadRefused),
+    /// Nothing is written, for this reason.
+    NoOutput(Reason),
 }
 
 impl Ending {
@@ -39,14 +28,10 @@ impl Ending {
     {
         match self {
             Ending::Done => 0,
-            Ending::Usage => 2,
-            Ending::Refused(_) => 3,
             Ending::ReadFault => 4,
             Ending::WriteFault => 5,
             Ending::Memory => 6,
-            Ending::Panicked(_) => 7,
-            Ending::NotPatched { .. } => 8,
-            Ending::NotRead(_) => 9,
+            Ending::NoOutput(reason) => reason.status(),
         }
     }
 }

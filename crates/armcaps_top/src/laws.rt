@@ -12,7 +12,7 @@ ghost use Rattle.armcaps_sanit.specs.System.{field_values, system_field, system_
 ghost use Rattle.armcaps_sanit.specs.Users.{user_field, user_word};
 ghost use Rattle.armcaps_board.specs.Board.{core_at};
 ghost use Rattle.armcaps_top.specs.Document.{Document, document};
-ghost use Rattle.armcaps_top.specs.Run.{admitted_in};
+ghost use Rattle.armcaps_top.specs.Answer.{admitted_in};
 
 use armcaps_text::laws::readings_are_sound;
 

@@ -8,9 +8,11 @@ mod ending;
 pub mod laws;
 mod program;
 mod reading;
+mod reason;
 mod refusal;
 mod telling;
 #[cfg(test)]
 mod tests;
+mod writing;
 
 pub use program::run;

@@ -1,12 +1,15 @@
 //! Reading the input, up to the limit of its format.
 
-ghost use Rattle.std.specs.Prelude.{◌≡◌, ◌≤◌, ◌<◌, ◌+◌, ◌^◌, ℕ, [], IfOk, IfErr, Ok, Err, true, false, length};
+ghost use Rattle.std.specs.Prelude.{◌≡◌, ◌≤◌, ◌<◌, ◌+◌, ◌^◌, ℕ, [], IfOk, IfErr, Ok, Err, Some, true, false, length};
 ghost use Rattle.armcaps_io.specs.Causes.{Rose};
 ghost use Rattle.armcaps_io.specs.Streams.{GivesAll, GivesAtMost, GivesCount, IsAtEnd, Moves};
 ghost use Rattle.armcaps_text.specs.Formats.{format_of};
-ghost use Rattle.armcaps_top.specs.Inside.{IsFailure, IsUnread};
+ghost use Rattle.armcaps_top.specs.Inside.{IsFailure, IsNotRead, IsRead, IsUnread};
+ghost use Rattle.armcaps_top.specs.Run.{change, most_read, reads_input};
 
+use crate::commands::Command;
 use crate::ending::Ending;
+use crate::reason::Reason;
 use crate::refusal::Refusal;
 use armcaps_io::{InFault, Source, read_on};
 use armcaps_text::Format;
@@ -31,14 +34,14 @@ fn read_past<S: Source>(source: &mut S, bytes: &mut Vec<u8>, limit: usize) -> Re
     }
 }
 
-/// All bytes of an input that has no more of them than its format allows, or else why it was not read. Of an input that
-/// is refused for its length one byte more than the limit is read, and of none more than one byte past the greatest limit
-/// of a format.
-pub fn read_input<S: Source>(alloc: Global, source: &mut S) -> Result<Vec<u8>, Ending>
+// All bytes of an input that has no more of them than its format allows, or else why it was not read. Of an input that
+// is refused for its length one byte more than the limit is read, and of none more than one byte past the greatest limit
+// of a format.
+fn read_input<S: Source>(alloc: Global, source: &mut S) -> Result<Vec<u8>, Ending>
     ensures whole { IfOk result (λ bytes. GivesAll (S.left source.old) (S.left source.new) bytes.items) }
     ensures within { IfOk result (λ bytes. length bytes.items ≤ (format_of bytes.items).input) }
     ensures unread { IfErr result (IsUnread (S.left source.old) (S.faults source.old) (S.faults source.new)) }
-    ensures one_more { (limit : ℕ) → result ≡ Err (Ending.Refused (Refusal.TooLong limit)) →
+    ensures one_more { (limit : ℕ) → result ≡ Err (Ending.NoOutput (Reason.Refused (Refusal.TooLong limit))) →
         GivesCount (S.left source.old) (S.left source.new) (limit + 1) }
     ensures at_most { GivesAtMost (S.left source.old) (S.left source.new) 537919489 }
     ensures never_falls { S.faults source.old ≤ S.faults source.new }
@@ -51,12 +54,32 @@ pub fn read_input<S: Source>(alloc: Global, source: &mut S) -> Result<Vec<u8>, E
     }
     let limit = Format::of(&bytes).input;
     if limit == first_limit {
-        return Err(Ending::Refused(Refusal::TooLong { limit }));
+        return Err(Ending::NoOutput(Reason::Refused(Refusal::TooLong { limit })));
     }
     let ended_further = read_past(source, &mut bytes, limit)?;
     if ended_further {
         Ok(bytes)
     } else {
-        Err(Ending::Refused(Refusal::TooLong { limit }))
+        Err(Ending::NoOutput(Reason::Refused(Refusal::TooLong { limit })))
+    }
+}
+
+/// The input of a command that reads it, up to its limit, and nothing for `demo`, or else why it was not read.
+pub fn read_for<S: Source>(
+    alloc: Global,
+    command: Command,
+    source: &mut S,
+) -> Result<Vec<u8>, Ending>
+    ensures read { IfOk result (λ bytes. IsRead command (change S.left S.faults source.old source.new) bytes.items) }
+    ensures within { IfOk result (λ bytes. length bytes.items ≤ (format_of bytes.items).input) }
+    ensures not_read { IfErr result (IsNotRead command (change S.left S.faults source.old source.new)) }
+    ensures one_more { (limit : ℕ) → result ≡ Err (Ending.NoOutput (Reason.Refused (Refusal.TooLong limit))) →
+        GivesCount (S.left source.old) (S.left source.new) (limit + 1) }
+    ensures at_most { GivesAtMost (S.left source.old) (S.left source.new) (most_read (Some command)) }
+    ensures untouched { reads_input (Some command) ≡ false → source.new ≡ source.old }
+{
+    match command {
+        Command::Ask(_) | Command::Patch => read_input(alloc, source),
+        Command::Demo { .. } => Ok(Vec::new(alloc)),
     }
 }

@@ -11,7 +11,7 @@ ghost use Rattle.armcaps_hwcap.specs.Hwcaps.{hwcap_name};
 ghost use Rattle.armcaps_report.specs.Texts.{capability_text, cause_text};
 ghost use Rattle.armcaps_text.specs.declared.kind.TextKind.{TextKind};
 ghost use Rattle.armcaps_top.specs.Document.{refused_text};
-ghost use Rattle.armcaps_top.specs.Ending.{ending_text, halt_text};
+ghost use Rattle.armcaps_top.specs.Ending.{ending_text, halt_text, reason_text};
 ghost use Rattle.armcaps_top.specs.Mrs.{eight_digits, read_refused_text};
 ghost use Rattle.armcaps_alt.specs.declared.patch_kind.PatchKind.{PatchKind};
 ghost use Rattle.armcaps_top.specs.Patch.{entry_text};
@@ -21,6 +21,7 @@ ghost use Rattle.armcaps_top.specs.declared.refusal.Refusal.TheVariants as Refus
 
 use crate::commands::mrs::ReadRefused;
 use crate::ending::Ending;
+use crate::reason::Reason;
 use crate::refusal::Refusal;
 use armcaps_alt::PatchKind;
 use armcaps_boot::{Cause, Halt};
@@ -298,6 +299,24 @@ fn add_not_patched(line: &mut ArrayString<256>, entry: u32, kind: PatchKind)
     add_entry(line, entry, kind);
 }
 
+// Adds a reason.
+#[tactic(auto, unfolding(crate::specs::Ending::reason_text))]
+fn add_reason(line: &mut ArrayString<256>, reason: Reason)
+    requires { array_string_len line.old + 130 ≤ 256 }
+    ensures text { line.new.bytes ≡ line.old.bytes ++ reason_text reason }
+    ensures room { array_string_len line.new ≤ array_string_len line.old + 130 }
+{
+    match reason {
+        Reason::Usage => line.push_str(
+            "usage: armcaps report | patch | mrs CORE WORD | demo SEED CORES | trace",
+        ),
+        Reason::Refused(refusal) => add_refusal(line, refusal),
+        Reason::Panicked(halt) => add_panic(line, halt),
+        Reason::NotPatched { entry, kind } => add_not_patched(line, entry, kind),
+        Reason::NotRead(unread) => add_not_read(line, unread),
+    }
+}
+
 // Adds an ending's text.
 #[tactic(auto, unfolding(crate::specs::Ending::ending_text))]
 fn add_text(line: &mut ArrayString<256>, ending: Ending)
@@ -307,16 +326,10 @@ fn add_text(line: &mut ArrayString<256>, ending: Ending)
 {
     match ending {
         Ending::Done => {}
-        Ending::Usage => line.push_str(
-            "usage: armcaps report | patch | mrs CORE WORD | demo SEED CORES | trace",
-        ),
-        Ending::Refused(refusal) => add_refusal(line, refusal),
         Ending::ReadFault => line.push_str("read fault"),
         Ending::WriteFault => line.push_str("write fault"),
         Ending::Memory => line.push_str("want of memory"),
-        Ending::Panicked(halt) => add_panic(line, halt),
-        Ending::NotPatched { entry, kind } => add_not_patched(line, entry, kind),
-        Ending::NotRead(unread) => add_not_read(line, unread),
+        Ending::NoOutput(reason) => add_reason(line, reason),
     }
 }
 

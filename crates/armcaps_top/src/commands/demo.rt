@@ -7,18 +7,17 @@ ghost use Rattle.armcaps_alt.specs.Patched.{patched_image};
 ghost use Rattle.armcaps_alt.specs.Refusals.{first_refusal};
 ghost use Rattle.armcaps_alt.specs.declared.table_place.Layout.{Layout as Place};
 ghost use Rattle.armcaps_boot.specs.Findings.{findings_of};
-ghost use Rattle.armcaps_boot.specs.Outcome.{IsSafe};
 ghost use Rattle.armcaps_boot.specs.World.{state_at};
 ghost use Rattle.armcaps_patch.specs.Counting.{words_of_sites};
 ghost use Rattle.armcaps_patch.specs.Features.{features_of};
 ghost use Rattle.armcaps_patch.specs.Kept.{StandsFor};
-ghost use Rattle.armcaps_top.specs.Demo.{cores_that, counts_of, demo_lines, generated_document, is_changed, stands_parked, stands_admitted, sum_of_words, words_changed, words_covered};
-ghost use Rattle.armcaps_top.specs.Inside.{LeavesAfter};
-ghost use Rattle.armcaps_top.specs.Output.{board_of};
-ghost use Rattle.armcaps_top.specs.Run.{steps_of, written_of};
+ghost use Rattle.armcaps_top.specs.Answer.{answer_of};
+ghost use Rattle.armcaps_top.specs.Demo.{cores_that, counts_of, demo_lines, is_changed, stands_parked, stands_admitted, sum_of_words, words_changed, words_covered};
+ghost use Rattle.armcaps_top.specs.Inside.{Comes, as_bytes};
 
-use crate::bringing::{begin, bring_up};
+use crate::bringing::{bring, only};
 use crate::commands::Command;
+use crate::ending::Ending;
 use armcaps_alt::{Layout, Names};
 use armcaps_boot::{Boot, CoreState};
 use armcaps_io::{Failed, Sink};
@@ -258,26 +257,26 @@ fn demo_text(
 
 /// Makes a machine with so many cores and its image from a seed, brings the machine up and leaves it in `machines`,
 /// patches the image, and makes what is written of both.
-pub fn demo_answer(
+pub fn demo(
     alloc: Global,
     seed: u32,
     cores: u32,
     machines: &mut Vec<Boot>,
-) -> Result<String, AllocError>
+) -> Result<String, Ending>
     requires some { 1 ≤ cores }
     requires few { cores ≤ 64 }
     requires none { machines.old.items ≡ [] }
-    ensures output { IfOk result (λ text. written_of (Command.Demo seed cores) (Ok (generated_document seed cores)) ≡ Ok (string_bytes text)) }
-    ensures machine { IfOk result (λ text. let found = generated_document seed cores in LeavesAfter (board_of found.reading) (steps_of found) machines.new.items) }
-    ensures safe { IfOk result (λ text. let found = generated_document seed cores in IsSafe (board_of found.reading) (steps_of found)) }
+    ensures { Comes (answer_of (Command.Demo seed cores) []) machines.new.items (as_bytes string_bytes result) }
 {
-    let (machine, image) = generate(alloc, seed, cores)?;
+    let Ok((machine, image)) = generate(alloc, seed, cores) else {
+        return Err(Ending::Memory);
+    };
     let layout = machine.layout;
     generated_machines_are_sound();
     generated_images_are_not_refused();
-    let (mut boot, events, names) = begin(alloc, machine)?;
-    bring_up(&mut boot, &events);
-    let text = demo_text(alloc, seed, cores, &boot, &names, &image, layout)?;
-    machines.push(boot)?;
-    Ok(text)
+    let names = bring(alloc, machine, machines)?;
+    match demo_text(alloc, seed, cores, only(machines), &names, &image, layout) {
+        Ok(text) => Ok(text),
+        Err(_) => Err(Ending::Memory),
+    }
 }

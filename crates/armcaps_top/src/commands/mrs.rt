@@ -1,19 +1,20 @@
 //! `mrs CORE WORD`: what a program on the core reads by the instruction.
 
-ghost use Rattle.std.specs.Prelude.{◌≡◌, ◌≢◌, ◌++◌, Ok, Err, IfOk, IfErr, OnOk, true, alloc_error, length, reverse, string_bytes};
-ghost use Rattle.armcaps_boot.specs.After.{IsAfter};
-ghost use Rattle.armcaps_boot.specs.Admission.{steps_made};
+ghost use Rattle.std.specs.Prelude.{◌≡◌, ◌++◌, [], IfOk, OnOk, string_bytes};
 ghost use Rattle.armcaps_mrs.specs.declared.read.UserRead.{UserRead};
-ghost use Rattle.armcaps_top.specs.Bringing.{IsAt, board_in};
-ghost use Rattle.armcaps_top.specs.Inside.{IsInstead};
+ghost use Rattle.armcaps_text.specs.Document.{reading_of};
+ghost use Rattle.armcaps_text.specs.Sound.{IsSound};
+ghost use Rattle.armcaps_top.specs.Inside.{Answers, as_bytes};
 ghost use Rattle.armcaps_top.specs.Mrs.{general_name, read_line, read_refused_of, value_text};
-ghost use Rattle.armcaps_top.specs.Output.{output_after};
+ghost use Rattle.armcaps_top.specs.declared.commands.Command.TheVariants as Command;
 ghost use Rattle.armcaps_top.specs.declared.commands.Query.TheVariants as Query;
 
-use crate::bringing::bring_up;
+use crate::bringing::{bring, only};
 use crate::ending::Ending;
-use armcaps_boot::{Boot, Event};
+use crate::reason::Reason;
+use armcaps_boot::Boot;
 use armcaps_mrs::{UserRead, UserRefused, read_user};
+use armcaps_text::Machine;
 use std::alloc::{AllocError, Global};
 use std::fmt::Write;
 
@@ -65,27 +66,26 @@ fn read_line(alloc: Global, read: UserRead) -> Result<String, AllocError>
     Ok(text)
 }
 
-/// Makes the steps in their order, and reads.
+/// Brings the machine up, and reads.
 pub fn read_output(
     alloc: Global,
     core: u32,
     word: u32,
-    boot: &mut Boot,
-    events: &[Event],
+    machine: Machine,
+    machines: &mut Vec<Boot>,
 ) -> Result<String, Ending>
-    requires { IsAt 0 events.now (board_in boot.old) boot.old }
-    ensures output { IfOk result (λ text. output_after (Query.Mrs core word) (board_in boot.old) (reverse events.now) ≡ Ok (string_bytes text)) }
-    ensures instead { IfErr result (IsInstead (output_after (Query.Mrs core word) (board_in boot.old) (reverse events.now))) }
-    ensures machine { result ≢ Err Ending.Memory → IsAfter (board_in boot.old) (steps_made (board_in boot.old) (reverse events.now)) boot.new }
+    requires sound { IsSound (reading_of machine) }
+    requires none { machines.old.items ≡ [] }
+    ensures { Answers (Command.Ask (Query.Mrs core word)) (reading_of machine) machines.new.items (as_bytes string_bytes result) }
 {
-    if let Some(halt) = bring_up(boot, events) {
-        return Err(Ending::Panicked(halt));
-    }
-    match read_user(boot, core, word) {
+    bring(alloc, machine, machines)?;
+    match read_user(only(machines), core, word) {
         Ok(read) => match read_line(alloc, read) {
             Ok(text) => Ok(text),
             Err(_) => Err(Ending::Memory),
         },
-        Err(refused) => Err(Ending::NotRead(read_refused_of(core, word, refused))),
+        Err(refused) => Err(Ending::NoOutput(Reason::NotRead(read_refused_of(
+            core, word, refused,
+        )))),
     }
 }

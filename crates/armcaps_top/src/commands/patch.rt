@@ -1,54 +1,80 @@
 //! `patch`: the image, patched for the machine.
 
-ghost use Rattle.std.specs.Prelude.{◌≡◌, ◌≢◌, ◌≤◌, ◌+◌, ◌*◌, ◌^◌, Ok, Err, None, IfOk, IfErr, true, length, reverse};
-ghost use Rattle.armcaps_boot.specs.After.{IsAfter};
-ghost use Rattle.armcaps_boot.specs.Admission.{halt_of, steps_made};
-ghost use Rattle.armcaps_board.specs.Order.{is_complete};
+ghost use Rattle.std.specs.Prelude.{◌≡◌, ◌≤◌, IfOk, [], drop, length};
+ghost use Rattle.armcaps_board.specs.Steps.{history};
 ghost use Rattle.armcaps_boot.specs.Findings.{findings_after};
 ghost use Rattle.armcaps_patch.specs.Features.{features_of_findings};
 ghost use Rattle.armcaps_patch.specs.Kept.{StandsFor};
-ghost use Rattle.armcaps_alt.specs.Patched.{patched_image};
-ghost use Rattle.armcaps_text.specs.Document.{Reading};
-ghost use Rattle.armcaps_top.specs.Bringing.{IsAt, board_in};
-ghost use Rattle.armcaps_top.specs.Inside.{IsInstead};
-ghost use Rattle.armcaps_top.specs.Output.{unless_stopped};
-ghost use Rattle.armcaps_top.specs.Patch.{patch_output};
+ghost use Rattle.armcaps_text.specs.Document.{reading_of};
+ghost use Rattle.armcaps_text.specs.Formats.{format_of};
+ghost use Rattle.armcaps_text.specs.Sound.{IsSound};
+ghost use Rattle.armcaps_top.specs.Answer.{answer_of, board_of, of_document};
+ghost use Rattle.armcaps_top.specs.Inside.{Comes, Ends, as_bytes};
+ghost use Rattle.armcaps_top.specs.Patch.{image_for};
+ghost use Rattle.armcaps_top.specs.Run.{change};
+ghost use Rattle.armcaps_top.specs.declared.commands.Command.TheVariants as Command;
 
-use crate::bringing::bring_up;
+use crate::bringing::{bring, only};
+use crate::document::machine_of;
 use crate::ending::Ending;
-use armcaps_alt::{Layout, Names};
-use armcaps_boot::{Boot, Event};
+use crate::reason::Reason;
+use armcaps_boot::Boot;
+use armcaps_io::Sink;
 use armcaps_patch::{PatchRefused, Plan};
+use armcaps_text::Machine;
 use std::alloc::Global;
 
-/// Makes the steps in their order, and plans the patched image.
-pub fn patch_plan(
+/// Brings the machine up, and plans its patched image.
+pub fn plan_of(
     alloc: Global,
-    boot: &mut Boot,
-    events: &[Event],
+    machine: Machine,
     image: &[u8],
-    layout: Layout,
-    names: &Names,
+    machines: &mut Vec<Boot>,
 ) -> Result<Plan, Ending>
-    requires begins { IsAt 0 events.now (board_in boot.old) boot.old }
-    requires complete { is_complete (length boot.old.cores) (reverse events.now) ≡ true }
-    requires size { length image.now ≤ 2 ^ 29 }
-    requires table { layout.table + 12 * layout.count ≤ length image.now }
-    ensures going { IfOk result (λ plan. halt_of (board_in boot.old) (reverse events.now) ≡ None) }
-    ensures plan { IfOk result (λ plan. StandsFor plan (features_of_findings (findings_after (board_in boot.old) (reverse events.now)) names.now) image.now layout) }
-    ensures output { IfOk result (λ plan. (reading : Reading) → reading.layout ≡ layout → reading.names ≡ names.now →
-        unless_stopped (halt_of (board_in boot.old) (reverse events.now)) (patch_output (board_in boot.old) (reverse events.now) reading image.now)
-        ≡ Ok (patched_image (features_of_findings (findings_after (board_in boot.old) (reverse events.now)) names.now) image.now layout)) }
-    ensures instead { (reading : Reading) → reading.layout ≡ layout → reading.names ≡ names.now → IfErr result (IsInstead
-        (unless_stopped (halt_of (board_in boot.old) (reverse events.now)) (patch_output (board_in boot.old) (reverse events.now) reading image.now))) }
-    ensures machine { result ≢ Err Ending.Memory → IsAfter (board_in boot.old) (steps_made (board_in boot.old) (reverse events.now)) boot.new }
+    requires sound { IsSound (reading_of machine) }
+    requires none { machines.old.items ≡ [] }
+    requires image { length image.now ≡ machine.image }
+    ensures plan { IfOk result (λ plan. StandsFor plan (features_of_findings (findings_after (board_of (reading_of machine))
+        (history machine.steps.items)) machine.names) image.now machine.layout) }
+    ensures comes { Comes (of_document Command.Patch (Ok (record { reading = reading_of machine; image = image.now }))) machines.new.items
+        (as_bytes (λ plan. image_for (board_of (reading_of machine)) (history machine.steps.items) (reading_of machine) image.now) result) }
 {
-    if let Some(halt) = bring_up(boot, events) {
-        return Err(Ending::Panicked(halt));
-    }
-    match Plan::check(alloc, image, layout, names, boot) {
+    let layout = machine.layout;
+    let names = bring(alloc, machine, machines)?;
+    match Plan::check(alloc, image, layout, &names, only(machines)) {
         Ok(plan) => Ok(plan),
-        Err(PatchRefused::Entry { entry, kind }) => Err(Ending::NotPatched { entry, kind }),
+        Err(PatchRefused::Entry { entry, kind }) => {
+            Err(Ending::NoOutput(Reason::NotPatched { entry, kind }))
+        }
         Err(PatchRefused::Memory) => Err(Ending::Memory),
+    }
+}
+
+// The bytes from a place on.
+fn bytes_from(bytes: &[u8], place: usize) -> &[u8]
+    requires { place ≤ length bytes.now }
+    ensures { result.now ≡ drop place bytes.now }
+{
+    &bytes[place..]
+}
+
+/// Brings the machine of a document up, leaves it in `machines`, and writes the image, patched for the machine.
+pub fn patch<O: Sink>(alloc: Global, bytes: &[u8], out: &mut O, machines: &mut Vec<Boot>) -> Ending
+    requires within { length bytes.now ≤ (format_of bytes.now).input }
+    requires none { machines.old.items ≡ [] }
+    ensures { Ends Command.Patch (answer_of Command.Patch bytes.now) (change O.held O.faults out.old out.new) machines.new.items result }
+{
+    let (machine, place) = match machine_of(alloc, bytes) {
+        Ok(read) => read,
+        Err(ending) => return ending,
+    };
+    let image = bytes_from(bytes, place);
+    let plan = match plan_of(alloc, machine, image, machines) {
+        Ok(plan) => plan,
+        Err(ending) => return ending,
+    };
+    match plan.write(image, out) {
+        Ok(()) => Ending::Done,
+        Err(_) => Ending::WriteFault,
     }
 }

@@ -1,6 +1,6 @@
 //! `trace`: what came of each step, and the system registers that it changed.
 
-ghost use Rattle.std.specs.Prelude.{◌≡◌, ◌≢◌, ◌<◌, ◌+◌, ◌++◌, List, Ok, Err, None, IsOk, IfOk, IfErr, OnOk, length, reverse, slice_index_or, string_bytes};
+ghost use Rattle.std.specs.Prelude.{◌≡◌, [], ◌<◌, ◌+◌, ◌++◌, List, Ok, Err, None, IsOk, IfOk, OnOk, length, reverse, slice_index_or, string_bytes};
 ghost use Rattle.std.specs.List.{flat_map};
 ghost use Rattle.armcaps_enc.specs.Registers.{tracked};
 ghost use Rattle.armcaps_tables.specs.Core.{Core};
@@ -10,18 +10,21 @@ ghost use Rattle.armcaps_boot.specs.After.{IsAfter};
 ghost use Rattle.armcaps_boot.specs.Admission.{halt_of, steps_made};
 ghost use Rattle.armcaps_board.specs.declared.event.Event.TheVariants as Event;
 ghost use Rattle.armcaps_top.specs.Bringing.{IsAt, board_in, steps_before};
-ghost use Rattle.armcaps_top.specs.Inside.{IsInstead};
-ghost use Rattle.armcaps_top.specs.Output.{output_after};
+ghost use Rattle.armcaps_text.specs.Document.{reading_of};
+ghost use Rattle.armcaps_text.specs.Sound.{IsSound};
+ghost use Rattle.armcaps_top.specs.Inside.{Answers, as_bytes};
+ghost use Rattle.armcaps_top.specs.declared.commands.Command.TheVariants as Command;
 ghost use Rattle.armcaps_top.specs.Trace.{changed_line, changed_lines, reply_text, step_line, step_lines, step_text, trace_of};
 ghost use Rattle.armcaps_top.specs.declared.commands.Query.TheVariants as Query;
 
-use crate::bringing::make_step;
+use crate::bringing::{begin, leave, make_step};
 use crate::ending::Ending;
 use armcaps_boot::laws::sets_are_those_of_the_steps;
 use armcaps_boot::{Boot, Event, Halt, Reply};
 use armcaps_enc::SysReg;
 use armcaps_report::{push_cause, push_register};
 use armcaps_sanit::System;
+use armcaps_text::Machine;
 use std::alloc::{AllocError, Global};
 use std::fmt::Write;
 
@@ -143,17 +146,24 @@ fn trace_steps(
     Ok(None)
 }
 
-/// Makes the steps in their order, and traces them.
-pub fn trace_output(alloc: Global, boot: &mut Boot, events: &[Event]) -> Result<String, Ending>
-    requires { IsAt 0 events.now (board_in boot.old) boot.old }
-    ensures output { IfOk result (λ text. output_after Query.Trace (board_in boot.old) (reverse events.now) ≡ Ok (string_bytes text)) }
-    ensures instead { IfErr result (IsInstead (output_after Query.Trace (board_in boot.old) (reverse events.now))) }
-    ensures machine { result ≢ Err Ending.Memory → IsAfter (board_in boot.old) (steps_made (board_in boot.old) (reverse events.now)) boot.new }
+/// Brings the machine up, and traces its steps.
+pub fn trace_output(
+    alloc: Global,
+    machine: Machine,
+    machines: &mut Vec<Boot>,
+) -> Result<String, Ending>
+    requires sound { IsSound (reading_of machine) }
+    requires none { machines.old.items ≡ [] }
+    ensures { Answers (Command.Ask Query.Trace) (reading_of machine) machines.new.items (as_bytes string_bytes result) }
 {
+    let Ok((mut boot, events, _)) = begin(alloc, machine) else {
+        return Err(Ending::Memory);
+    };
     let mut text = String::new(alloc);
-    match trace_steps(&mut text, boot, events) {
-        Ok(None) => Ok(text),
-        Ok(Some(halt)) => Err(Ending::Panicked(halt)),
-        Err(_) => Err(Ending::Memory),
-    }
+    let Ok(halt) = trace_steps(&mut text, &mut boot, &events) else {
+        return Err(Ending::Memory);
+    };
+    boot.facts_hold();
+    leave(machines, boot, halt)?;
+    Ok(text)
 }

@@ -3,7 +3,7 @@ use Rattle.std.specs.List.{flat_map}
 use Rattle.armcaps_board.specs.Steps.{events_of, history}
 use Rattle.armcaps_board.specs.declared.step_line.StepLine.{StepLine}
 use Rattle.armcaps_text.specs.Document.{reading_of}
-use Rattle.armcaps_top.specs.Output.{board_of}
+use Rattle.armcaps_top.specs.Answer.{board_of}
 use Rattle.armcaps_top.proofs.Answered.{begins, board_is, completes, history_is, is_board}
 use Rattle.armcaps_top.proofs.bringing.begin.Goals as goal
 

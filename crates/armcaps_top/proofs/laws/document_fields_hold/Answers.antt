@@ -1,6 +1,6 @@
 use Rattle.armcaps_sanit.proofs.SystemWords.{system_word_made}
 use Rattle.armcaps_sanit.proofs.UserWords.{user_word_made}
-use Rattle.armcaps_top.specs.Run.{admitted_in}
+use Rattle.armcaps_top.specs.Answer.{admitted_in}
 use Rattle.armcaps_top.proofs.DocumentFields.{document_sound, some_admitted, unsafe_override}
 use Rattle.armcaps_top.proofs.laws.document_fields_hold.Goals as goal
 

@@ -1,0 +1,135 @@
+-- Which reasons the answers of commands can have.
+use Rattle.std.proofs.Common.{◌≡◌, ◌⊎◌, inl, inr, ℕ, ◌≤◌, true, List, [], ◌∷◌, Option, Some, None, refl, sym, ap, subst, ◌∙◌}
+use Rattle.std.specs.Prelude.{Result, Ok, Err, is_some}
+use Rattle.armcaps_alt.specs.Entries.{Features}
+use Rattle.armcaps_alt.specs.Patched.{patched_image}
+use Rattle.armcaps_alt.specs.Refusals as alternatives
+use Rattle.armcaps_alt.specs.Refusals.{first_refusal}
+use Rattle.armcaps_boot.specs.Findings.{Findings, findings_after}
+use Rattle.armcaps_mrs.specs.Reading.{user_read}
+use Rattle.armcaps_patch.specs.Features.{features_of_findings}
+use Rattle.armcaps_boot.specs.declared.halt.Halt.{Halt}
+use Rattle.armcaps_text.proofs.GeneratedReading.{generated_up}
+use Rattle.armcaps_top.specs.Answer.{Answer, answer_for, board_of, steps_of, halt_in, of_document, output_in, read_or_not, refused, unless_stopped}
+use Rattle.armcaps_top.specs.Demo.{generated_document}
+use Rattle.armcaps_top.specs.Document.{Document, document}
+use Rattle.armcaps_top.specs.Ending.{reason_status}
+use Rattle.armcaps_top.specs.Inside.{AreCoresGiven}
+use Rattle.armcaps_top.specs.Mrs.{read_output}
+use Rattle.armcaps_top.specs.Patch.{unless_entry_refused}
+use Rattle.armcaps_top.specs.Run.{can_end, is_some_stopped, reads_input}
+use Rattle.armcaps_top.specs.declared.commands.Command.{Command}
+use Rattle.armcaps_top.specs.declared.commands.Command.TheVariants.{Ask, Patch, Demo}
+use Rattle.armcaps_top.specs.declared.commands.Query.TheVariants.{Report, Mrs, Trace}
+use Rattle.armcaps_top.specs.declared.commands.mrs.ReadRefused.{ReadRefused}
+use Rattle.armcaps_top.specs.declared.reason.Reason.{Reason}
+use Rattle.armcaps_top.specs.declared.reason.Reason.TheVariants.{Usage, Refused, Panicked, NotPatched, NotRead}
+use Rattle.armcaps_top.specs.declared.refusal.Refusal.{Refusal}
+
+-- what the reason says of the answer that has it
+pub record Fits (command : Option Command) (answer : Answer) : Type 0 where
+  pub status : (reason : Reason) → answer.output ≡ Err reason → can_end command (reason_status reason) ≡ true
+  pub usage : answer.output ≡ Err Usage → command ≡ None
+  pub refused : (refusal : Refusal) → answer.output ≡ Err (Refused refusal) → answer ≡ refused refusal
+  pub stopped : (halt : Halt) → answer.output ≡ Err (Panicked halt) → is_some_stopped answer.machines ≡ true
+
+-- a reason of a command's own, for which it writes nothing of a document whose machine no step stops
+abbrev pub IsOwn : Option Command → Reason → Type 0
+IsOwn command Usage = ⊥
+IsOwn command (Refused refusal) = ⊥
+IsOwn command (Panicked halt) = ⊥
+IsOwn command (NotPatched entry kind) = can_end command 8 ≡ true
+IsOwn command (NotRead refused) = can_end command 9 ≡ true
+
+own_status : (command : Option Command) (reason : Reason) → IsOwn command reason → can_end command (reason_status reason) ≡ true
+own_status command Usage own = absurd own
+own_status command (Refused refusal) own = absurd own
+own_status command (Panicked halt) own = absurd own
+own_status command (NotPatched entry kind) own = own
+own_status command (NotRead refused) own = own
+
+some_stopped : (found : Document) (halt : Halt) → halt_in found ≡ Some halt → is_some_stopped (found ∷ []) ≡ true
+some_stopped found halt is = rw is refl
+
+-- an answer from a document
+fits_by : (command : Command) (found : Document) (halt : Option Halt) → halt_in found ≡ halt → (can_end (Some command) 7 ≡ true) ⊎ (halt ≡ None)
+    → ((reason : Reason) → output_in command found ≡ Err reason → IsOwn (Some command) reason)
+    → Fits (Some command) (record { machines = found ∷ []; output = unless_stopped halt (output_in command found) })
+fits_by command found None is seven own = record {
+  status = λ reason same. own_status (Some command) reason (own reason same);
+  usage = λ same. absurd (own Usage same);
+  refused = λ refusal same. absurd (own (Refused refusal) same);
+  stopped = λ halt same. absurd (own (Panicked halt) same);
+}
+fits_by command found (Some halt) is (inr none) own = absurd (let no : ⊥ = cc in no)
+fits_by command found (Some halt) is (inl seven) own = record {
+  status = λ reason same. let is_halt : Panicked halt ≡ reason = cc in subst (λ (r : Reason). can_end (Some command) (reason_status r) ≡ true) is_halt seven;
+  usage = λ same. absurd (let no : ⊥ = cc in no);
+  refused = λ refusal same. absurd (let no : ⊥ = cc in no);
+  stopped = λ other same. some_stopped found halt is;
+}
+
+pub fits_found : (command : Command) (found : Document) → (can_end (Some command) 7 ≡ true) ⊎ (halt_in found ≡ None)
+    → ((reason : Reason) → output_in command found ≡ Err reason → IsOwn (Some command) reason) → Fits (Some command) (of_document command (Ok found))
+fits_found command found seven own = fits_by command found (halt_in found) refl seven own
+
+-- an answer from an input that is none
+pub fits_refused : (command : Option Command) (refusal : Refusal) → can_end command 3 ≡ true → Fits command (refused refusal)
+fits_refused command refusal three = record {
+  status = λ reason same. let is : Refused refusal ≡ reason = cc in subst (λ (r : Reason). can_end command (reason_status r) ≡ true) is three;
+  usage = λ same. absurd (let no : ⊥ = cc in no);
+  refused = λ other same. let is : refusal ≡ other = cc in ap refused is;
+  stopped = λ halt same. absurd (let no : ⊥ = cc in no);
+}
+
+-- an answer from an input
+pub fits_input : (command : Command) (read : Result Document Refusal) → can_end (Some command) 3 ≡ true → can_end (Some command) 7 ≡ true
+    → ((found : Document) (reason : Reason) → output_in command found ≡ Err reason → IsOwn (Some command) reason) → Fits (Some command) (of_document command read)
+fits_input command (Ok found) three seven own = fits_found command found (inl seven) (own found)
+fits_input command (Err refusal) three seven own = fits_refused (Some command) refusal three
+
+own_read : (core word : ℕ) (read : Result (List ℕ) ReadRefused) (reason : Reason) → read_or_not read ≡ Err reason → IsOwn (Some (Ask (Mrs core word))) reason
+own_read core word (Ok output) reason is = absurd (let no : ⊥ = cc in no)
+own_read core word (Err refused) reason is =
+    let same : NotRead refused ≡ reason = cc in subst (λ (r : Reason). IsOwn (Some (Ask (Mrs core word))) r) same refl
+
+own_entry : (refusal : Option alternatives.Refusal) (image : List ℕ) (reason : Reason) → unless_entry_refused refusal image ≡ Err reason → IsOwn (Some Patch) reason
+own_entry None image reason is = absurd (let no : ⊥ = cc in no)
+own_entry (Some refusal) image reason is =
+    let same : NotPatched refusal.entry refusal.kind ≡ reason = cc in subst (λ (r : Reason). IsOwn (Some Patch) r) same refl
+
+abbrev findings_of_document : Document → Findings
+findings_of_document found = findings_after (board_of found.reading) (steps_of found)
+
+abbrev features_of_document : Document → Features
+features_of_document found = features_of_findings (findings_of_document found) found.reading.names
+
+pub fits : (command : Option Command) (bytes : List ℕ) → AreCoresGiven command → Fits command (answer_for command bytes)
+fits None bytes given = record {
+  status = λ reason same. let is : Usage ≡ reason = cc in subst (λ (r : Reason). can_end None (reason_status r) ≡ true) is refl;
+  usage = λ same. refl;
+  refused = λ refusal same. absurd (let no : ⊥ = cc in no);
+  stopped = λ halt same. absurd (let no : ⊥ = cc in no);
+}
+fits (Some (Ask Report)) bytes given = fits_input (Ask Report) (document bytes) refl refl (λ found reason same. absurd (let no : ⊥ = cc in no))
+fits (Some (Ask Trace)) bytes given = fits_input (Ask Trace) (document bytes) refl refl (λ found reason same. absurd (let no : ⊥ = cc in no))
+fits (Some (Ask (Mrs core word))) bytes given = fits_input (Ask (Mrs core word)) (document bytes) refl refl (λ found. own_read core word (read_output core word (user_read (findings_of_document found) core word)))
+fits (Some Patch) bytes given = fits_input Patch (document bytes) refl refl (λ found. own_entry (first_refusal (features_of_document found) found.image found.reading.layout)
+    (patched_image (features_of_document found) found.image found.reading.layout))
+fits (Some (Demo seed cores)) bytes given =
+    fits_found (Demo seed cores) (generated_document seed cores) (inr (generated_up seed cores given.0)) (λ reason same. absurd (let no : ⊥ = cc in no))
+
+-- a command can end by what its streams and the memory do
+pub stream_ends : (command : Command) → (can_end (Some command) 0 ≡ true) × (can_end (Some command) 5 ≡ true) × (can_end (Some command) 6 ≡ true)
+stream_ends (Ask Report) = (refl, refl, refl)
+stream_ends (Ask Trace) = (refl, refl, refl)
+stream_ends (Ask (Mrs core word)) = (refl, refl, refl)
+stream_ends Patch = (refl, refl, refl)
+stream_ends (Demo seed cores) = (refl, refl, refl)
+
+pub read_ends : (command : Command) → reads_input (Some command) ≡ true → can_end (Some command) 4 ≡ true
+read_ends (Ask Report) reads = refl
+read_ends (Ask Trace) reads = refl
+read_ends (Ask (Mrs core word)) reads = refl
+read_ends Patch reads = refl
+read_ends (Demo seed cores) reads = absurd (let no : ⊥ = cc in no)

@@ -1,0 +1,40 @@
+use Rattle.std.proofs.Common.{◌≡◌, ℕ, List, Ok, ap, subst, sym, ◌∙◌}
+use Rattle.std.specs.Prelude.{Result}
+use Rattle.armcaps_alt.specs.Entries.{Features}
+use Rattle.armcaps_board.specs.Steps.{history}
+use Rattle.armcaps_boot.specs.Findings.{findings_after}
+use Rattle.armcaps_patch.specs.Features.{features_of_findings}
+use Rattle.armcaps_text.specs.Document.{Reading, reading_of}
+use Rattle.armcaps_top.specs.Answer.{board_of, of_document}
+use Rattle.armcaps_top.specs.Document.{Document, document}
+use Rattle.armcaps_top.specs.Inside.{Comes}
+use Rattle.armcaps_top.specs.Patch.{image_for}
+use Rattle.armcaps_top.specs.Run.{change}
+use Rattle.armcaps_top.specs.declared.commands.Command.TheVariants.{Patch}
+use Rattle.armcaps_top.specs.declared.refusal.Refusal.{Refusal}
+use Rattle.armcaps_top.proofs.Performing.{document_is, wrote, wrote_part}
+use Rattle.armcaps_top.proofs.commands.patch.patch.Goals as goal
+
+pub returns-in-Ok-write : goal.returns-in-Ok-write
+returns-in-Ok-write g c =
+    let reading : Reading = reading_of c.in-Ok.read.0 in
+    let image : List ℕ = c.bytes_from-image.result.now in
+    let features : Features = features_of_findings (findings_after (board_of reading) (history reading.steps)) reading.names in
+    let text : List ℕ = image_for (board_of reading) (history reading.steps) reading image in
+    let machines = c.plan_of.new.machines.items in
+    let is = document_is reading image c.args.bytes.now c.in-Ok.read.1 c.in-Ok.ensures.document c.bytes_from-image.ensures in
+    wrote Patch (of_document Patch (document c.args.bytes.now)) (change g.O.Sink.held g.O.Sink.faults c.args.out.now c.write.new.sink) machines text
+    (subst (λ (read : Result Document Refusal). Comes (of_document Patch read) machines (Ok text)) (sym is) c.in-Ok-plan_of.ensures.comes)
+    (c.in-Ok-write.ensures.whole features reading.layout c.in-Ok-plan_of.ensures.plan)
+
+pub returns : goal.returns
+returns g c =
+    let reading : Reading = reading_of c.in-Ok.read.0 in
+    let image : List ℕ = c.bytes_from-image.result.now in
+    let features : Features = features_of_findings (findings_after (board_of reading) (history reading.steps)) reading.names in
+    let text : List ℕ = image_for (board_of reading) (history reading.steps) reading image in
+    let machines = c.plan_of.new.machines.items in
+    let is = document_is reading image c.args.bytes.now c.in-Ok.read.1 c.in-Ok.ensures.document c.bytes_from-image.ensures in
+    wrote_part Patch (of_document Patch (document c.args.bytes.now)) (change g.O.Sink.held g.O.Sink.faults c.args.out.now c.write.new.sink) machines text
+    (subst (λ (read : Result Document Refusal). Comes (of_document Patch read) machines (Ok text)) (sym is) c.in-Ok-plan_of.ensures.comes)
+    c.in-Err-write.ensures.cause (c.in-Err-write.ensures.prefix features reading.layout c.in-Ok-plan_of.ensures.plan)

@@ -1,0 +1,39 @@
+//! Why a command writes nothing.
+
+use crate::commands::mrs::ReadRefused;
+use crate::refusal::Refusal;
+use armcaps_alt::PatchKind;
+use armcaps_boot::Halt;
+
+/// Why a command writes nothing, which its words and its input alone decide.
+#[derive(Clone, Copy)]
+pub enum Reason {
+    /// The words are no form of a command.
+    Usage,
+    /// The input is no document.
+    Refused(Refusal),
+    /// A step stopped the machine.
+    Panicked(Halt),
+    /// This entry of the table is the first that is refused, for this kind.
+    NotPatched { entry: u32, kind: PatchKind },
+    /// A program reads nothing there.
+    NotRead(ReadRefused),
+}
+
+impl Reason {
+    ghost use Rattle.std.specs.Prelude.{◌≡◌};
+    ghost use Rattle.armcaps_top.specs.Ending.{reason_status};
+
+    /// The status that the process ends with.
+    pub fn status(self) -> u8
+        ensures { result ≡ reason_status self }
+    {
+        match self {
+            Reason::Usage => 2,
+            Reason::Refused(_) => 3,
+            Reason::Panicked(_) => 7,
+            Reason::NotPatched { .. } => 8,
+            Reason::NotRead(_) => 9,
+        }
+    }
+}
