@@ -4,19 +4,18 @@ use Rattle.std.specs.Prelude.{Result, Ok, Err, IfOk, reverse}
 use Rattle.std.specs.List.{flat_map}
 use Rattle.armcaps_board.specs.declared.event.Event.{Event}
 use Rattle.armcaps_boot.specs.declared.halt.Halt.{Halt}
-use Rattle.armcaps_board.specs.Board.{Board}
+use Rattle.armcaps_board.specs.Board.{Board, IsBoard}
+use Rattle.armcaps_board.specs.Order.{in_order, is_complete}
+use Rattle.armcaps_board.specs.Steps.{events_of, history}
 use Rattle.armcaps_boot.specs.Admission.{halt_of, steps_made}
 use Rattle.armcaps_boot.specs.After.{IsAfter}
+use Rattle.armcaps_boot.specs.Facts.{Facts}
 use Rattle.armcaps_boot.specs.First.{first_world}
-use Rattle.armcaps_board.specs.Order.{in_order, is_complete}
-use Rattle.armcaps_boot.specs.Outcome.{IsBoard}
-use Rattle.armcaps_board.specs.Steps.{events_of, history}
 use Rattle.armcaps_boot.specs.World.{World}
 use Rattle.armcaps_text.specs.Document.{Reading}
 use Rattle.armcaps_text.specs.Sound.{IsSound}
-use Rattle.armcaps_boot.specs.Facts.{Facts}
-use Rattle.armcaps_top.specs.Answer.{board_of, unless_stopped}
-use Rattle.armcaps_top.specs.Bringing.{IsAt, IsBegun, board_in}
+use Rattle.armcaps_top.specs.Answer.{unless_stopped}
+use Rattle.armcaps_top.specs.Bringing.{IsAt, IsBegun}
 use Rattle.armcaps_top.specs.Inside.{IsHaltOf, IsHalted, IsNotUp, IsThrough, IsUp}
 use Rattle.armcaps_top.specs.declared.ending.Ending.{Ending}
 use Rattle.armcaps_top.specs.declared.ending.Ending.TheVariants.{Done, ReadFault, WriteFault, Memory, NoOutput}
@@ -28,29 +27,29 @@ pub history_is : (reading : Reading) (events : List Event) → events ≡ flat_m
 unfolding history
 history_is reading events is = ap reverse is
 
-pub board_is : (reading : Reading) (world : World) → world ≡ first_world reading.cores reading.boot reading.overrides → board_in world ≡ board_of reading
-board_is reading world is = ap board_in is
+pub board_is : (reading : Reading) (world : World) → world ≡ first_world reading.board → world.board ≡ reading.board
+board_is reading world is = ap (λ (w : World). w.board) is
 
 -- a machine that was just made is at the first of the steps
-pub begins : ((board : Board) → board.boot < length board.cores → IsAfter board [] (first_world board.cores board.boot board.overrides))
+pub begins : ((board : Board) → board.boot < length board.cores → IsAfter board [] (first_world board))
     → (reading : Reading) (events : List Event) (world : World) → IsSound reading → events ≡ flat_map events_of reading.steps
-    → world ≡ first_world reading.cores reading.boot reading.overrides → IsAt 0 events (board_in world) world
+    → world ≡ first_world reading.board → IsAt 0 events world.board world
 unfolding halt_of
 begins law reading events world sound events_are is =
-    let first : World = first_world reading.cores reading.boot reading.overrides in
-    let order : in_order (length reading.cores) reading.boot (reverse events) ≡ true =
-    subst (λ (steps : List Event). in_order (length reading.cores) reading.boot steps ≡ true) (sym (history_is reading events events_are)) sound.order in
-    let at : IsAt 0 events (board_in first) first = record { order = order; after = law (board_of reading) sound.boot; going = refl } in
-    subst (λ (w : World). IsAt 0 events (board_in w) w) (sym is) at
+    let first : World = first_world reading.board in
+    let order : in_order reading.board (reverse events) ≡ true =
+    subst (λ (steps : List Event). in_order reading.board steps ≡ true) (sym (history_is reading events events_are)) sound.order in
+    let at : IsAt 0 events first.board first = record { order = order; after = law reading.board sound.board.within; going = refl } in
+    subst (λ (w : World). IsAt 0 events w.board w) (sym is) at
 
 pub completes : (reading : Reading) (events : List Event) (world : World) → IsSound reading → events ≡ flat_map events_of reading.steps
-    → world ≡ first_world reading.cores reading.boot reading.overrides → is_complete (length world.cores) (reverse events) ≡ true
+    → world ≡ first_world reading.board → is_complete (reverse events) ≡ true
 completes reading events world sound events_are is =
-    subst (λ (steps : List Event). is_complete (length world.cores) steps ≡ true) (sym (history_is reading events events_are))
-    (subst (λ (w : World). is_complete (length w.cores) (history reading.steps) ≡ true) (sym is) sound.complete)
+    subst (λ (steps : List Event). is_complete steps ≡ true) (sym (history_is reading events events_are))
+    sound.complete
 
-pub is_board : (reading : Reading) → IsSound reading → IsBoard (board_of reading)
-is_board reading sound = record { within = sound.boot; few = sound.cores; fit = sound.fit; plain_ctr = sound.plain_ctr }
+pub is_board : (reading : Reading) → IsSound reading → IsBoard reading.board
+is_board reading sound = sound.board
 
 -- the same steps as a slice
 pub begun_on : {reading : Reading} {events slice : List Event} {world : World} → IsBegun reading events world → slice ≡ events → IsBegun reading slice world
@@ -58,28 +57,28 @@ begun_on {reading} {events} {slice} {world} begun is = subst (λ (steps : List E
 
 -- what is said of a machine is said of its reading
 pub carried : {A : Type 0} (P : Board → List Event → A) {reading : Reading} {events : List Event} {world : World} → IsBegun reading events world
-    → P (board_in world) (reverse events) ≡ P (board_of reading) (history reading.steps)
-carried P {reading} {events} {world} begun = ap (λ (board : Board). P board (reverse events)) begun.board ∙ ap (P (board_of reading)) begun.steps
+    → P world.board (reverse events) ≡ P reading.board (history reading.steps)
+carried P {reading} {events} {world} begun = ap (λ (board : Board). P board (reverse events)) begun.board ∙ ap (P reading.board) begun.steps
 
 pub made_of : {reading : Reading} {events : List Event} {world : World} (new : World) → IsBegun reading events world
-    → IsAfter (board_in world) (steps_made (board_in world) (reverse events)) new → IsAfter (board_of reading) (steps_made (board_of reading) (history reading.steps)) new
+    → IsAfter world.board (steps_made world.board (reverse events)) new → IsAfter reading.board (steps_made reading.board (history reading.steps)) new
 made_of {reading} {events} {world} new begun after =
-    subst (λ (steps : List Event). IsAfter (board_of reading) steps new) (carried steps_made begun)
-    (subst (λ (board : Board). IsAfter board (steps_made (board_in world) (reverse events)) new) begun.board after)
+    subst (λ (steps : List Event). IsAfter reading.board steps new) (carried steps_made begun)
+    (subst (λ (board : Board). IsAfter board (steps_made world.board (reverse events)) new) begun.board after)
 
 -- a machine that was brought up whole
 pub through : {reading : Reading} {events : List Event} {world : World} (new : World) (halt : Option Halt) → IsBegun reading events world
-    → IsAfter (board_in world) (steps_made (board_in world) (reverse events)) new → halt ≡ halt_of (board_in world) (reverse events) → halt ≡ None → Facts new
+    → IsAfter world.board (steps_made world.board (reverse events)) new → halt ≡ halt_of world.board (reverse events) → halt ≡ None → Facts new
     → IsThrough reading new
 through {reading} {events} {world} new halt begun after is none facts =
-    let board : Board = board_of reading in
+    let board : Board = reading.board in
     let steps : List Event = history reading.steps in
     let going : halt_of board steps ≡ None = sym (carried halt_of begun) ∙ sym is ∙ none in
     let made : IsAfter board (steps_made board steps) new = made_of new begun after in
     let whole : IsAfter board steps new = whole_after board steps new going made in
-    let complete : is_complete (length board.cores) steps ≡ true =
-    subst (λ (s : List Event). is_complete (length board.cores) s ≡ true) begun.steps
-    (subst (λ (b : Board). is_complete (length b.cores) (reverse events) ≡ true) begun.board begun.complete) in record {
+    let complete : is_complete steps ≡ true =
+    subst (λ (s : List Event). is_complete s ≡ true) begun.steps
+    begun.complete in record {
       machine = made;
       going = going;
       safe = begun.safe going;
@@ -90,7 +89,7 @@ through {reading} {events} {world} new halt begun after is none facts =
 
 -- a machine that is left after those that were there
 pub up : {reading : Reading} {events : List Event} {world : World} (new : World) (halt : Option Halt) (before after : List World) → IsBegun reading events world
-    → IsAfter (board_in world) (steps_made (board_in world) (reverse events)) new → halt ≡ halt_of (board_in world) (reverse events) → halt ≡ None → Facts new
+    → IsAfter world.board (steps_made world.board (reverse events)) new → halt ≡ halt_of world.board (reverse events) → halt ≡ None → Facts new
     → after ≡ before ++ new ∷ [] → IsUp reading before after
 up new halt before after begun made is none facts left = record { world = new; left = left; through = through new halt begun made is none facts }
 
@@ -99,7 +98,7 @@ stopped_so : (halt : Option Halt) (stop : Halt) → halt ≡ Some stop → (outp
 stopped_so halt stop is output = rw is refl
 
 pub not_up : {reading : Reading} {events : List Event} {world : World} (new : World) (halt : Option Halt) (before after : List World) (ending : Ending) → IsBegun reading events world
-    → IsAfter (board_in world) (steps_made (board_in world) (reverse events)) new → halt ≡ halt_of (board_in world) (reverse events) → IsHaltOf halt (Err ending)
+    → IsAfter world.board (steps_made world.board (reverse events)) new → halt ≡ halt_of world.board (reverse events) → IsHaltOf halt (Err ending)
     → (ending ≢ Memory → after ≡ before ++ new ∷ []) → IsNotUp reading before after ending
 not_up new halt before after Done begun made is stops left = absurd stops
 not_up new halt before after ReadFault begun made is stops left = absurd stops
@@ -109,6 +108,6 @@ not_up {reading} new halt before after (NoOutput (Panicked stop)) begun made is 
   world = new;
   left = left (λ e. let no : ⊥ = cc in no);
   machine = made_of new begun made;
-  stopped = stopped_so (halt_of (board_of reading) (history reading.steps)) stop (sym (carried halt_of begun) ∙ sym is ∙ stops);
+  stopped = stopped_so (halt_of reading.board (history reading.steps)) stop (sym (carried halt_of begun) ∙ sym is ∙ stops);
 }
 not_up new halt before after (NoOutput _) begun made is stops left = absurd stops

@@ -8,22 +8,22 @@ use Rattle.armcaps_board.specs.Board.{Board}
 use Rattle.armcaps_boot.specs.Admission.{halt_of, steps_made}
 use Rattle.armcaps_boot.specs.After.{IsAfter}
 use Rattle.armcaps_boot.specs.World.{World}
-use Rattle.armcaps_top.specs.Bringing.{IsAt, board_in, steps_before}
+use Rattle.armcaps_top.specs.Bringing.{IsAt, steps_before}
 use Rattle.armcaps_top.proofs.Steps.{made_whole, steps_whole, stops_at}
 
 -- the board of a machine that has made steps of a board is that board
-pub board_kept : (board : Board) (past : List Event) (world : World) → IsAfter board past world → board_in world ≡ board
-board_kept board past world after = let is = after.of_board in rw (is.cores, is.boot, is.overrides) refl
+pub board_kept : (board : Board) (past : List Event) (world : World) → IsAfter board past world → world.board ≡ board
+board_kept board past world after = after.of_board
 
 -- one step more
 pub after_step : (board : Board) (index : ℕ) (events : List Event) (world new : World) → IsAt index events board world
-    → IsAfter (board_in world) (steps_before (index + 1) events) new → IsAfter board (steps_before (index + 1) events) new
+    → IsAfter world.board (steps_before (index + 1) events) new → IsAfter board (steps_before (index + 1) events) new
 after_step board index events world new at after =
     subst (λ (b : Board). IsAfter b (steps_before (index + 1) events) new) (board_kept board (steps_before index events) world at.after) after
 
 -- a step that does not stop the machine
 pub goes_on : (board : Board) (index : ℕ) (events : List Event) (world new : World) → IsAt index events board world
-    → IsAfter (board_in world) (steps_before (index + 1) events) new → new.halted ≡ None → IsAt (index + 1) events board new
+    → IsAfter world.board (steps_before (index + 1) events) new → new.halted ≡ None → IsAt (index + 1) events board new
 goes_on board index events world new at after going =
     let made = after_step board index events world new at after in record {
       order = at.order;
@@ -38,7 +38,7 @@ pub record IsBrought (board : Board) (events : List Event) (halt : Option Halt) 
 
 -- where a step stops the machine
 pub stopped : (board : Board) (index : ℕ) (events : List Event) (world new : World) (halt : Halt) → index < length events → IsAt index events board world
-    → IsAfter (board_in world) (steps_before (index + 1) events) new → new.halted ≡ Some halt → IsBrought board events (Some halt) new
+    → IsAfter world.board (steps_before (index + 1) events) new → new.halted ≡ Some halt → IsBrought board events (Some halt) new
 stopped board index events world new halt inside at after stops =
     let made = after_step board index events world new at after in
     let found = stops_at board index events (Check 0) halt inside at.going (sym made.halted ∙ stops) in record {

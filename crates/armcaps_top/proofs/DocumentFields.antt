@@ -11,15 +11,15 @@ use Rattle.armcaps_tables.specs.Fields.{field_in}
 use Rattle.armcaps_tables.specs.Overriding.{override_of}
 use Rattle.armcaps_tables.specs.Row.{Row}
 use Rattle.armcaps_sanit.specs.System.{field_values, system_field}
-use Rattle.armcaps_boot.specs.Admission.{is_among_admitted}
 use Rattle.armcaps_board.specs.Board.{core_at}
+use Rattle.armcaps_boot.specs.Admission.{is_among_admitted}
 use Rattle.armcaps_boot.proofs.ChosenCores.{Among, chosen-among}
 use Rattle.armcaps_text.specs.Document as text
 use Rattle.armcaps_text.specs.Document.{Outcome, Reading, outcome}
 use Rattle.armcaps_text.specs.Formats.{format_of}
 use Rattle.armcaps_text.specs.Sound.{IsSound}
 use Rattle.armcaps_top.specs.Document.{Document, document, document_after, image_refusal, unless_refused}
-use Rattle.armcaps_top.specs.Answer.{admitted_in, board_of, steps_of}
+use Rattle.armcaps_top.specs.Answer.{admitted_in, steps_of}
 use Rattle.armcaps_top.specs.declared.refusal.Refusal.{Refusal}
 use Rattle.armcaps_top.specs.declared.refusal.Refusal.TheVariants.{TooLong}
 
@@ -47,25 +47,25 @@ document_sound law input is read =
     let found = reads_after (nat_lt limit (length input)) (TooLong limit) (outcome input) input is read in law input is.reading found.0 found.1
 
 -- the boot core stands among the admitted ones
-boot_among : (is : Document) → IsSound is.reading → Among (admitted_in is) (core_at is.reading.cores is.reading.boot)
+boot_among : (is : Document) → IsSound is.reading → Among (admitted_in is) (core_at is.reading.board.cores is.reading.board.boot)
 boot_among is sound =
-    let passes : is_among_admitted (board_of is.reading) (steps_of is) is.reading.boot ≡ true = grind (arith, nat_tests) in
-    chosen-among (is_among_admitted (board_of is.reading) (steps_of is)) is.reading.cores is.reading.boot sound.boot passes
+    let passes : is_among_admitted is.reading.board (steps_of is) is.reading.board.boot ≡ true = grind (arith, nat_tests) in
+    chosen-among (is_among_admitted is.reading.board (steps_of is)) is.reading.board.cores is.reading.board.boot sound.board.within passes
 
 pub some_admitted : (is : Document) → IsSound is.reading → 0 < length (admitted_in is)
 some_admitted is sound =
     let boot = boot_among is sound in
-    rw boot.is (omega (arith, length-append boot.before (core_at is.reading.cores is.reading.boot ∷ boot.after)))
+    rw boot.is (omega (arith, length-append boot.before (core_at is.reading.board.cores is.reading.board.boot ∷ boot.after)))
 
 -- an override that the boot core's value does not give way to leaves no mark
 pub unsafe_override : (is : Document) (reg : SysReg) (index : ℕ) (row : Row) (value : ℤ) → IsSound is.reading
-    → override_of is.reading.overrides reg index ≡ Some value
-    → (merged row.rule row.safe value (field_in row (core_word (core_at is.reading.cores is.reading.boot) reg)) ≡ value → ⊥)
-    → system_field is.reading.overrides (admitted_in is) reg index row ≡ fold_of row.rule row.safe (field_values (admitted_in is) reg row)
+    → override_of is.reading.board.overrides reg index ≡ Some value
+    → (merged row.rule row.safe value (field_in row (core_word (core_at is.reading.board.cores is.reading.board.boot) reg)) ≡ value → ⊥)
+    → system_field is.reading.board.overrides (admitted_in is) reg index row ≡ fold_of row.rule row.safe (field_values (admitted_in is) reg row)
 unsafe_override is reg index row value sound given unsafe =
     let boot = boot_among is sound in
-    let x : ℤ = field_in row (core_word (core_at is.reading.cores is.reading.boot) reg) in
+    let x : ℤ = field_in row (core_word (core_at is.reading.board.cores is.reading.board.boot) reg) in
     let values : field_values (admitted_in is) reg row ≡ field_values boot.before reg row ++ x ∷ field_values boot.after reg row =
     ap (λ (cores : List Core). field_values cores reg row) boot.is
-    ∙ map-append (λ (core : Core). field_in row (core_word core reg)) boot.before (core_at is.reading.cores is.reading.boot ∷ boot.after) in
+    ∙ map-append (λ (core : Core). field_in row (core_word core reg)) boot.before (core_at is.reading.board.cores is.reading.board.boot ∷ boot.after) in
     rw (given, values) (override_ignored row.rule row.safe (field_values boot.before reg row) (field_values boot.after reg row) x value unsafe)

@@ -10,7 +10,8 @@ use Rattle.armcaps_mrs.specs.Reading.{user_read}
 use Rattle.armcaps_patch.specs.Features.{features_of_findings}
 use Rattle.armcaps_boot.specs.declared.halt.Halt.{Halt}
 use Rattle.armcaps_text.proofs.GeneratedReading.{generated_up}
-use Rattle.armcaps_top.specs.Answer.{Answer, answer_for, board_of, steps_of, halt_in, of_document, output_in, read_or_not, refused, unless_stopped}
+use Rattle.armcaps_text.specs.Generator.{generated_reading}
+use Rattle.armcaps_top.specs.Answer.{Answer, answer_for, steps_of, halt_in, of_document, output_in, read_or_not, refused, unless_stopped}
 use Rattle.armcaps_top.specs.Demo.{generated_document}
 use Rattle.armcaps_top.specs.Document.{Document, document}
 use Rattle.armcaps_top.specs.Ending.{reason_status}
@@ -99,10 +100,15 @@ own_entry (Some refusal) image reason is =
     let same : NotPatched refusal.entry refusal.kind ≡ reason = cc in subst (λ (r : Reason). IsOwn (Some Patch) r) same refl
 
 abbrev findings_of_document : Document → Findings
-findings_of_document found = findings_after (board_of found.reading) (steps_of found)
+findings_of_document found = findings_after found.reading.board (steps_of found)
 
 abbrev features_of_document : Document → Features
 features_of_document found = features_of_findings (findings_of_document found) found.reading.names
+
+-- no step stops a machine that is made from a seed
+demo_goes : (seed cores : ℕ) → 1 ≤ cores → halt_in (generated_document seed cores) ≡ None
+unfolding generated_reading
+demo_goes seed cores some = generated_up seed cores some
 
 pub fits : (command : Option Command) (bytes : List ℕ) → AreCoresGiven command → Fits command (answer_for command bytes)
 fits None bytes given = record {
@@ -117,7 +123,7 @@ fits (Some (Ask (Mrs core word))) bytes given = fits_input (Ask (Mrs core word))
 fits (Some Patch) bytes given = fits_input Patch (document bytes) refl refl (λ found. own_entry (first_refusal (features_of_document found) found.image found.reading.layout)
     (patched_image (features_of_document found) found.image found.reading.layout))
 fits (Some (Demo seed cores)) bytes given =
-    fits_found (Demo seed cores) (generated_document seed cores) (inr (generated_up seed cores given.0)) (λ reason same. absurd (let no : ⊥ = cc in no))
+    fits_found (Demo seed cores) (generated_document seed cores) (inr (demo_goes seed cores given.0)) (λ reason same. absurd (let no : ⊥ = cc in no))
 
 -- a command can end by what its streams and the memory do
 pub stream_ends : (command : Command) → (can_end (Some command) 0 ≡ true) × (can_end (Some command) 5 ≡ true) × (can_end (Some command) 6 ≡ true)

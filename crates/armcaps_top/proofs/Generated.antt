@@ -7,9 +7,9 @@ use Rattle.armcaps_boot.specs.World.{World}
 use Rattle.armcaps_patch.specs.Features.{features_of, features_of_findings}
 use Rattle.armcaps_text.specs.Document.{Reading}
 use Rattle.armcaps_text.specs.Generator.{generated_reading}
-use Rattle.armcaps_text.specs.LargeImage.{generated_image}
+use Rattle.armcaps_generate.specs.LargeImage.{generated_image}
 use Rattle.armcaps_text.specs.Sound.{IsSound}
-use Rattle.armcaps_top.specs.Answer.{board_of, output_in}
+use Rattle.armcaps_top.specs.Answer.{output_in}
 use Rattle.armcaps_top.specs.Demo.{counts_of, demo_lines, demo_output, generated_document}
 use Rattle.armcaps_top.specs.Document.{Document}
 use Rattle.armcaps_top.specs.Inside.{IsThrough}
@@ -18,7 +18,7 @@ use Rattle.armcaps_top.specs.declared.commands.Command.TheVariants.{Demo}
 -- the lines of a machine that was brought up are those of its board
 lines_are : (seed cores : ℕ) (reading : Reading) (image : List ℕ) (world : World) (text : List ℕ) → IsThrough reading world
     → text ≡ demo_lines seed cores (counts_of (findings_of world) (features_of world reading.names) image reading.layout)
-    → text ≡ demo_output seed cores (board_of reading) (history reading.steps) reading image
+    → text ≡ demo_output seed cores reading.board (history reading.steps) reading image
 unfolding demo_output
 lines_are seed cores reading image world text through is =
     is ∙ ap (λ (found : Findings). demo_lines seed cores (counts_of found (features_of_findings found reading.names) image reading.layout)) through.found

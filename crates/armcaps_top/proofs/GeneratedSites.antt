@@ -13,11 +13,13 @@ use Rattle.armcaps_alt.specs.declared.table_entry.Entry.{Entry}
 use Rattle.armcaps_alt.specs.declared.table_place.Layout.{Layout}
 use Rattle.armcaps_patch.specs.Counting.{words_of_sites}
 use Rattle.armcaps_text.specs.Document.{Reading}
-use Rattle.armcaps_text.specs.Generator.{Alternative, alternative_drawn, generated_alternatives, generated_reading, others_drawn}
-use Rattle.armcaps_text.specs.LargeImage.{entry_bytes, generated_image, image_of, laid, replacement_bytes, site_bytes, zeros}
-use Rattle.armcaps_text.proofs.Drawing.{each_drawn, few_instructions, length-several}
+use Rattle.armcaps_generate.specs.Alternatives.{Alternative, alternative_drawn, generated_alternatives}
+use Rattle.armcaps_generate.specs.Cores.{others_drawn}
+use Rattle.armcaps_text.specs.Generator.{generated_reading}
+use Rattle.armcaps_generate.specs.LargeImage.{entry_bytes, generated_image, image_of, laid, replacement_bytes, site_bytes, zeros}
+use Rattle.armcaps_generate.proofs.Drawing.{each_drawn, few_instructions, length-several}
 use Rattle.armcaps_text.proofs.GeneratedEntries.{length-generated}
-use Rattle.armcaps_text.proofs.LaidBytes.{HasAt, dropped, in_back, pieces_at}
+use Rattle.armcaps_generate.proofs.LaidBytes.{HasAt, dropped, in_back, pieces_at}
 use Rattle.armcaps_top.specs.Demo.{words_covered}
 use Rattle.armcaps_top.proofs.Covered.{AreApart, LiesAt, covered_apart, from_lower}
 

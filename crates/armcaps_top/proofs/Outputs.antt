@@ -10,24 +10,25 @@ use Rattle.armcaps_board.specs.declared.event.Event.{Event}
 use Rattle.armcaps_board.specs.declared.event.Event.TheVariants.{Check, Local, Store, Offline, Finalise}
 use Rattle.armcaps_boot.specs.declared.past.Past.{Past}
 use Rattle.armcaps_board.specs.Board.{Board}
+use Rattle.armcaps_board.specs.Order.{is_begun_last, is_complete, is_some_in_flight}
+use Rattle.armcaps_board.specs.Steps.{is_final, last_step}
 use Rattle.armcaps_boot.specs.Admission.{halt_of, held_back, steps_made}
 use Rattle.armcaps_boot.specs.After.{IsAfter, past_from, state_from, state_of}
 use Rattle.armcaps_boot.specs.Causes.{stops_machine}
 use Rattle.armcaps_boot.specs.Facts.{Facts}
+use Rattle.armcaps_boot.specs.Findings.{findings_after, findings_of}
+use Rattle.armcaps_boot.specs.World.{World, state_at}
 use Rattle.armcaps_alt.specs.declared.patch_kind.PatchKind.{PatchKind}
 use Rattle.armcaps_alt.specs.declared.table_place.Layout.{Layout}
 use Rattle.armcaps_alt.specs.Names.{NameLists}
 use Rattle.armcaps_alt.specs.Refusals.{first_refusal}
-use Rattle.armcaps_boot.specs.Findings.{Findings, findings_after, findings_of}
 use Rattle.armcaps_alt.specs.Patched.{patched_image}
 use Rattle.armcaps_patch.specs.Kept.{Planned, StandsFor}
 use Rattle.armcaps_patch.specs.Features.{features_of, features_of_findings}
 use Rattle.armcaps_text.specs.Document.{Reading}
 use Rattle.armcaps_top.specs.Patch.{patch_output}
-use Rattle.armcaps_board.specs.Order.{is_begun_last, is_complete, is_some_in_flight}
-use Rattle.armcaps_board.specs.Steps.{is_final, last_step}
-use Rattle.armcaps_boot.specs.World.{World, state_at}
-use Rattle.armcaps_boot.proofs.Histories.{and_left, and_right, none_in_flight, not_true}
+use Rattle.armcaps_board.proofs.Bools.{and_left, and_right, not_true}
+use Rattle.armcaps_board.proofs.Turns.{none_in_flight}
 use Rattle.armcaps_boot.proofs.Holding.{state_of-boot, state_of-other}
 use Rattle.armcaps_boot.proofs.ShorterHistories.{state_at-after}
 use Rattle.armcaps_mrs.specs.declared.read.UserRead.{UserRead}
@@ -47,7 +48,7 @@ whole_after board steps world going made = subst (λ (s : List Event). IsAfter b
 -- what is found is what the steps come to
 pub findings_are : (board : Board) (steps : List Event) (world : World) → IsAfter board steps world → findings_of world ≡ findings_after board steps
 findings_are board steps world after =
-    let is = after.of_board in rw (is.cores, is.boot, is.overrides, after.states) refl
+    rw (after.of_board, after.states) refl
 
 by_stop : (stops : Bool) (cause : Cause) → ((c : Cause) → cond stops (HasPanicked cause) (Parked cause) ≡ HasPanicked c → ⊥)
     → is_settled (cond stops (HasPanicked cause) (Parked cause)) ≡ true
@@ -65,11 +66,11 @@ settled_from (Some (Offline core)) None was begun fine = refl
 settled_from (Some Finalise) None was begun fine = refl
 
 -- once all steps are made, none of which stopped the machine, finalisation was done
-pub is_finalised : (board : Board) (steps : List Event) (world : World) → IsAfter board steps world → is_complete (length board.cores) steps ≡ true → world.final ≡ true
-is_finalised board steps world after complete = after.final ∙ and_left (is_final steps) (not (is_some_in_flight (length board.cores) steps)) complete
+pub is_finalised : (board : Board) (steps : List Event) (world : World) → IsAfter board steps world → is_complete steps ≡ true → world.final ≡ true
+is_finalised board steps world after complete = after.final ∙ and_left (is_final steps) (not (is_some_in_flight steps)) complete
 
 -- and no core is on its way up
-pub are_settled : (board : Board) (steps : List Event) (world : World) → Facts world → IsAfter board steps world → is_complete (length board.cores) steps ≡ true
+pub are_settled : (board : Board) (steps : List Event) (world : World) → Facts world → IsAfter board steps world → is_complete steps ≡ true
     → halt_of board steps ≡ None → AreSettled world.states
 are_settled board steps world facts after complete going = λ number. at number (cases_lt number (length board.cores))
   where
@@ -83,12 +84,12 @@ are_settled board steps world facts after complete going = λ number. at number 
     by_boot number within true is = ap is_settled (state_of-boot board steps number is)
     by_boot number within false is =
         let other = state_of-other board steps number is in
-        let quiet = none_in_flight (length board.cores) steps (not_true _ (and_right (is_final steps) (not (is_some_in_flight (length board.cores) steps)) complete)) number within in
+        let quiet = none_in_flight steps (not_true _ (and_right (is_final steps) (not (is_some_in_flight steps)) complete)) number in
         ap is_settled other ∙ settled_from (last_step number steps) (held_back board steps number) (past_from number steps) quiet
         (λ cause panicked. fine number cause (here number within ∙ other ∙ panicked))
 
     at : (number : ℕ) → (number < length board.cores) ⊎ (length board.cores ≤ number) → is_settled (state_at world.states number) ≡ true
     at number (inl within) = ap is_settled (here number within) ∙ by_boot number within (number == board.boot) refl
     at number (inr past) =
-        let far : length world.states ≤ number = omega (arith, past, facts.sizes, ap length after.of_board.cores) in
+        let far : length world.states ≤ number = omega (arith, past, facts.sizes, ap (λ (b : Board). length b.cores) after.of_board) in
         ap is_settled (get_or_past world.states number Absent far)

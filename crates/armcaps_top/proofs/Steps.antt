@@ -8,8 +8,9 @@ use Rattle.armcaps_boot.specs.declared.halt.Halt.{Halt}
 use Rattle.armcaps_boot.specs.declared.refused.StepRefused.{StepRefused}
 use Rattle.armcaps_boot.specs.declared.reply.Reply.{Reply}
 use Rattle.armcaps_board.specs.Board.{Board}
-use Rattle.armcaps_boot.specs.Admission.{halt_at, halt_of, steps_made}
+use Rattle.armcaps_board.proofs.Bools.{and_left, and_right}
 use Rattle.armcaps_board.specs.Order.{in_order, is_next}
+use Rattle.armcaps_boot.specs.Admission.{halt_at, halt_of, steps_made}
 use Rattle.armcaps_top.specs.Bringing.{steps_before}
 
 -- what is answered alike is alike
@@ -30,37 +31,29 @@ steps_whole events = ap reverse (take_all (length events) events (omega arith))
 pub steps_apart : (index : ℕ) (events : List Event) → reverse events ≡ reverse (drop index events) ++ steps_before index events
 steps_apart index events = ap reverse (sym (take-append-drop index events)) ∙ reverse-append (take index events) (drop index events)
 
-and_left : (a b : Bool) → (a && b) ≡ true → a ≡ true
-and_left true b both = refl
-and_left false b both = cc
-
-and_right : (a b : Bool) → (a && b) ≡ true → b ≡ true
-and_right true b both = both
-and_right false b both = cc
-
 -- the first of steps in order are in order
-pub order_before : (count boot : ℕ) (later past : List Event) → in_order count boot (later ++ past) ≡ true → in_order count boot past ≡ true
+pub order_before : (board : Board) (later past : List Event) → in_order board (later ++ past) ≡ true → in_order board past ≡ true
 unfolding in_order
-order_before count boot [] past order = order
-order_before count boot (event ∷ later) past order =
-    order_before count boot later past (and_right (is_next count boot (later ++ past) event) (in_order count boot (later ++ past)) order)
+order_before board [] past order = order
+order_before board (event ∷ later) past order =
+    order_before board later past (and_right (is_next board (later ++ past) event) (in_order board (later ++ past)) order)
 
 -- the step at an index comes next
-pub record ComesNext (count boot index : ℕ) (events : List Event) (default : Event) : Type 0 where
-  pub order : in_order count boot (steps_before index events) ≡ true
-  pub next : is_next count boot (steps_before index events) (get_or events index default) ≡ true
+pub record ComesNext (board : Board) (index : ℕ) (events : List Event) (default : Event) : Type 0 where
+  pub order : in_order board (steps_before index events) ≡ true
+  pub next : is_next board (steps_before index events) (get_or events index default) ≡ true
 
-pub comes_next : (count boot index : ℕ) (events : List Event) (default : Event) → index < length events
-    → in_order count boot (reverse events) ≡ true → ComesNext count boot index events default
+pub comes_next : (board : Board) (index : ℕ) (events : List Event) (default : Event) → index < length events
+    → in_order board (reverse events) ≡ true → ComesNext board index events default
 unfolding in_order
-comes_next count boot index events default inside order =
-    let apart : in_order count boot (reverse (drop (index + 1) events) ++ steps_before (index + 1) events) ≡ true =
-    subst (λ (steps : List Event). in_order count boot steps ≡ true) (steps_apart (index + 1) events) order in
-    let more : in_order count boot (get_or events index default ∷ steps_before index events) ≡ true =
-    subst (λ (steps : List Event). in_order count boot steps ≡ true) (steps_more index events default inside)
-    (order_before count boot (reverse (drop (index + 1) events)) (steps_before (index + 1) events) apart) in record {
-      order = and_right (is_next count boot (steps_before index events) (get_or events index default)) (in_order count boot (steps_before index events)) more;
-      next = and_left (is_next count boot (steps_before index events) (get_or events index default)) (in_order count boot (steps_before index events)) more;
+comes_next board index events default inside order =
+    let apart : in_order board (reverse (drop (index + 1) events) ++ steps_before (index + 1) events) ≡ true =
+    subst (λ (steps : List Event). in_order board steps ≡ true) (steps_apart (index + 1) events) order in
+    let more : in_order board (get_or events index default ∷ steps_before index events) ≡ true =
+    subst (λ (steps : List Event). in_order board steps ≡ true) (steps_more index events default inside)
+    (order_before board (reverse (drop (index + 1) events)) (steps_before (index + 1) events) apart) in record {
+      order = and_right (is_next board (steps_before index events) (get_or events index default)) (in_order board (steps_before index events)) more;
+      next = and_left (is_next board (steps_before index events) (get_or events index default)) (in_order board (steps_before index events)) more;
     }
 
 -- what stopped a machine stops it for good

@@ -4,9 +4,9 @@ use Rattle.armcaps_tables.specs.Core.{Core}
 use Rattle.armcaps_board.specs.declared.event.Event.{Event}
 use Rattle.armcaps_board.specs.Board.{Board}
 use Rattle.armcaps_board.specs.Steps.{history}
-use Rattle.armcaps_boot.specs.declared.halt.Halt.{Halt}
-use Rattle.armcaps_boot.specs.Admission.{admitted_of, halt_of}
+use Rattle.armcaps_boot.specs.Admission.{admitted_cores_after, halt_of}
 use Rattle.armcaps_boot.specs.Findings.{findings_after}
+use Rattle.armcaps_boot.specs.declared.halt.Halt.{Halt}
 use Rattle.armcaps_mrs.specs.Reading.{user_read}
 use Rattle.armcaps_report.specs.Report.{report_of}
 use Rattle.armcaps_text.specs.Document.{Reading}
@@ -24,21 +24,17 @@ use Rattle.armcaps_top.specs.declared.reason.Reason.{Reason}
 use Rattle.armcaps_top.specs.declared.reason.Reason.TheVariants.{Usage, Refused, Panicked, NotRead}
 use Rattle.armcaps_top.specs.declared.refusal.Refusal.{Refusal}
 
--- what a reading brings up: its cores, its boot core, and the overrides of its command line
-abbrev pub board_of : Reading → Board
-board_of reading = record { cores = reading.cores; boot = reading.boot; overrides = reading.overrides }
-
 -- the steps of a document, the newest first
 abbrev pub steps_of : Document → List Event
 steps_of found = history found.reading.steps
 
 -- what stops the machine of a document, if a step of it does
 abbrev pub halt_in : Document → Option Halt
-halt_in found = halt_of (board_of found.reading) (steps_of found)
+halt_in found = halt_of found.reading.board (steps_of found)
 
 -- the cores of a document that were ever admitted
 abbrev pub admitted_in : Document → List Core
-admitted_in found = admitted_of (board_of found.reading) (steps_of found)
+admitted_in found = admitted_cores_after found.reading.board (steps_of found)
 
 -- a read that comes to this
 abbrev pub read_or_not : Result (List ℕ) ReadRefused → Result (List ℕ) Reason
@@ -53,9 +49,9 @@ query_output Trace board steps = Ok (trace_of board steps)
 
 -- what a command writes of a document where no step stops its machine
 abbrev pub output_in : Command → Document → Result (List ℕ) Reason
-output_in (Ask query) found = query_output query (board_of found.reading) (steps_of found)
-output_in Patch found = patch_output (board_of found.reading) (steps_of found) found.reading found.image
-output_in (Demo seed cores) found = Ok (demo_output seed cores (board_of found.reading) (steps_of found) found.reading found.image)
+output_in (Ask query) found = query_output query found.reading.board (steps_of found)
+output_in Patch found = patch_output found.reading.board (steps_of found) found.reading found.image
+output_in (Demo seed cores) found = Ok (demo_output seed cores found.reading.board (steps_of found) found.reading found.image)
 
 -- nothing is written where the machine was stopped
 abbrev pub unless_stopped : Option Halt → Result (List ℕ) Reason → Result (List ℕ) Reason

@@ -16,7 +16,7 @@ use Rattle.armcaps_board.specs.declared.event.Event.{Event}
 use Rattle.armcaps_patch.specs.Features.{features_of_findings}
 use Rattle.armcaps_text.specs.Document.{Reading}
 use Rattle.armcaps_text.specs.Generator.{generated_reading}
-use Rattle.armcaps_text.specs.LargeImage.{generated_image}
+use Rattle.armcaps_generate.specs.LargeImage.{generated_image}
 use Rattle.armcaps_top.specs.Document.{Document}
 use Rattle.armcaps_top.specs.declared.commands.demo.Counts.{Counts}
 
@@ -32,7 +32,7 @@ stands_parked _ = false
 
 -- how many cores are in such a state
 abbrev pub cores_that : (CoreState → Bool) → Findings → ℕ
-cores_that test found = count_by (λ number. test (state_at found.states number)) (range_with_len 0 (length found.cores))
+cores_that test found = count_by (λ number. test (state_at found.states number)) (range_with_len 0 (length found.board.cores))
 
 -- how many words of an image the sites of entries cover: those whose first byte lies in the site of some entry
 abbrev pub words_covered : List ℕ → List Entry → ℕ

@@ -1,17 +1,17 @@
 -- What the parts of a run promise each other.
 use Rattle.std.specs.Prelude.{◌≡◌, ◌≢◌, ◌+◌, ℕ, ◌≤◌, true, false, List, [], ◌∷◌, ◌++◌, length, Option, Some, None, Result, Ok, Err, IfSome, IfOk, IfErr}
 use Rattle.armcaps_boot.specs.declared.halt.Halt.{Halt}
-use Rattle.armcaps_boot.specs.After.{IsAfter}
+use Rattle.armcaps_board.specs.Steps.{history}
 use Rattle.armcaps_boot.specs.Admission.{halt_of, steps_made}
+use Rattle.armcaps_boot.specs.After.{IsAfter}
 use Rattle.armcaps_boot.specs.Findings.{findings_after, findings_of}
 use Rattle.armcaps_boot.specs.Outcome.{IsSafe}
 use Rattle.armcaps_boot.specs.World.{World}
-use Rattle.armcaps_board.specs.Steps.{history}
 use Rattle.armcaps_io.specs.Causes.{Rose}
 use Rattle.armcaps_io.specs.Streams.{Appends, AppendsPrefix, GivesAtMost, GivesCount, Keeps}
 use Rattle.armcaps_report.specs.Settled.{AreSettled}
 use Rattle.armcaps_text.specs.Document.{Reading}
-use Rattle.armcaps_top.specs.Answer.{Answer, answer_of, board_of, of_document, unless_stopped}
+use Rattle.armcaps_top.specs.Answer.{Answer, answer_of, of_document, unless_stopped}
 use Rattle.armcaps_top.specs.Document.{document}
 use Rattle.armcaps_top.specs.Run.{AreBytesOf, AreMachinesOf, AreSafe, Change, EndsSo, IsReadWhole, ReadFails, Writes, WritesPrefix, most_read, reads_input}
 use Rattle.armcaps_top.specs.declared.commands.Command.{Command}
@@ -61,10 +61,10 @@ IsInstead output _ = ⊥
 
 -- the machine of a reading, all of whose steps were made, and none of which stopped it
 pub record IsThrough (reading : Reading) (world : World) : Type 0 where
-  pub machine : IsAfter (board_of reading) (steps_made (board_of reading) (history reading.steps)) world
-  pub going : halt_of (board_of reading) (history reading.steps) ≡ None
-  pub safe : IsSafe (board_of reading) (history reading.steps)
-  pub found : findings_of world ≡ findings_after (board_of reading) (history reading.steps)
+  pub machine : IsAfter reading.board (steps_made reading.board (history reading.steps)) world
+  pub going : halt_of reading.board (history reading.steps) ≡ None
+  pub safe : IsSafe reading.board (history reading.steps)
+  pub found : findings_of world ≡ findings_after reading.board (history reading.steps)
   pub final : world.final ≡ true
   pub settled : AreSettled world.states
 
@@ -78,8 +78,8 @@ pub record IsUp (reading : Reading) (old new : List World) : Type 0 where
 pub record IsHalted (reading : Reading) (reason : Reason) (old new : List World) : Type 0 where
   pub world : World
   pub left : new ≡ old ++ world ∷ []
-  pub machine : IsAfter (board_of reading) (steps_made (board_of reading) (history reading.steps)) world
-  pub stopped : (output : Result (List ℕ) Reason) → unless_stopped (halt_of (board_of reading) (history reading.steps)) output ≡ Err reason
+  pub machine : IsAfter reading.board (steps_made reading.board (history reading.steps)) world
+  pub stopped : (output : Result (List ℕ) Reason) → unless_stopped (halt_of reading.board (history reading.steps)) output ≡ Err reason
 
 -- what stopped a machine, as it is answered
 abbrev pub IsHaltOf : Option Halt → Result (Unit {0}) Ending → Type 0

@@ -5,11 +5,11 @@ use Rattle.std.specs.Prelude.{nat_eq}
 use Rattle.std.specs.Result.{IsOkAnd}
 use Rattle.armcaps_io.specs.Causes.{Rose}
 use Rattle.armcaps_io.specs.Streams.{Appends, AppendsPrefix, GivesAtMost, GivesCount, Keeps}
-use Rattle.armcaps_boot.specs.After.{IsAfter}
 use Rattle.armcaps_boot.specs.Admission.{steps_made}
+use Rattle.armcaps_boot.specs.After.{IsAfter}
 use Rattle.armcaps_boot.specs.Outcome.{IsSafe}
 use Rattle.armcaps_boot.specs.World.{World}
-use Rattle.armcaps_top.specs.Answer.{Answer, answer_for, board_of, halt_in, refused, steps_of}
+use Rattle.armcaps_top.specs.Answer.{Answer, answer_for, halt_in, refused, steps_of}
 use Rattle.armcaps_top.specs.Document.{Document}
 use Rattle.armcaps_top.specs.Ending.{output_status, status_of}
 use Rattle.armcaps_top.specs.Telling.{Tells}
@@ -89,7 +89,7 @@ EndsSo command answer input out (NoOutput reason) = answer.output ≡ Err reason
 
 -- the machine of a document: its steps were made in their order, up to one that stopped it
 abbrev pub IsMachineOf : Document → World → Type 0
-IsMachineOf found world = IsAfter (board_of found.reading) (steps_made (board_of found.reading) (steps_of found)) world
+IsMachineOf found world = IsAfter found.reading.board (steps_made found.reading.board (steps_of found)) world
 
 -- these are the machines of these documents, one for one and in their order
 abbrev pub AreMachinesOf : List Document → List World → Type 0
@@ -102,7 +102,7 @@ AreMachinesOf (found ∷ more) (world ∷ others) = IsMachineOf found world × A
 -- is enabled, and a core with steps is admitted, or parked by its first cause
 abbrev pub AreSafe : List Document → Type 0
 AreSafe [] = Unit {0}
-AreSafe (found ∷ more) = IsSafe (board_of found.reading) (steps_of found) × AreSafe more
+AreSafe (found ∷ more) = IsSafe found.reading.board (steps_of found) × AreSafe more
 
 -- a step of one of the documents stops its machine
 abbrev pub is_some_stopped : List Document → Bool

@@ -1,12 +1,12 @@
 //! A machine is brought up.
 
 ghost use Rattle.std.specs.Prelude.{◌≡◌, ◌≢◌, ◌<◌, ◌+◌, ◌++◌, ◌∷◌, [], IfOk, IfErr, Err, length, reverse, slice_index_or};
-ghost use Rattle.armcaps_boot.specs.After.{IsAfter, reply_of};
 ghost use Rattle.armcaps_boot.specs.Admission.{halt_of, steps_made};
+ghost use Rattle.armcaps_boot.specs.After.{IsAfter, reply_of};
 ghost use Rattle.armcaps_board.specs.declared.event.Event.TheVariants as Event;
 ghost use Rattle.armcaps_text.specs.Document.{reading_of};
 ghost use Rattle.armcaps_text.specs.Sound.{IsSound};
-ghost use Rattle.armcaps_top.specs.Bringing.{IsAt, IsBegun, board_in, steps_before};
+ghost use Rattle.armcaps_top.specs.Bringing.{IsAt, IsBegun, steps_before};
 ghost use Rattle.armcaps_top.specs.Inside.{IsHaltOf, IsNotUp, IsUp};
 
 use crate::ending::Ending;
@@ -24,7 +24,7 @@ pub fn begin(alloc: Global, machine: Machine) -> Result<(Boot, Vec<Event>, Names
     ensures names { IfOk result (λ made. made.2 ≡ machine.names) }
 {
     let events = events_of(alloc, &machine.steps)?;
-    let Ok(boot) = Boot::new(alloc, machine.cores, machine.boot, machine.overrides) else {
+    let Ok(boot) = Boot::new(alloc, machine.board.cores, machine.board.boot, machine.board.overrides) else {
         return Err(AllocError);
     };
     machines_begin_with_no_step();
@@ -35,9 +35,9 @@ pub fn begin(alloc: Global, machine: Machine) -> Result<(Boot, Vec<Event>, Names
 /// Makes the step at this index. It is never refused.
 pub fn make_step(boot: &mut Boot, events: &[Event], index: usize) -> Reply
     requires inside { index < length events.now }
-    requires at { IsAt index events.now (board_in boot.old) boot.old }
-    ensures reply { result ≡ reply_of (board_in boot.old) (steps_before index events.now) (slice_index_or events.now index (Event.Check 0)) }
-    ensures after { IsAfter (board_in boot.old) (steps_before (index + 1) events.now) boot.new }
+    requires at { IsAt index events.now boot.old.board boot.old }
+    ensures reply { result ≡ reply_of boot.old.board (steps_before index events.now) (slice_index_or events.now index (Event.Check 0)) }
+    ensures after { IsAfter boot.old.board (steps_before (index + 1) events.now) boot.new }
 {
     boot.facts_hold();
     steps_are_answered();
@@ -46,9 +46,9 @@ pub fn make_step(boot: &mut Boot, events: &[Event], index: usize) -> Reply
 
 /// Makes steps in their order, up to one that stops the machine, and says what stopped it.
 pub fn bring_up(boot: &mut Boot, events: &[Event]) -> Option<Halt>
-    requires { IsAt 0 events.now (board_in boot.old) boot.old }
-    ensures halt { result ≡ halt_of (board_in boot.old) (reverse events.now) }
-    ensures machine { IsAfter (board_in boot.old) (steps_made (board_in boot.old) (reverse events.now)) boot.new }
+    requires { IsAt 0 events.now boot.old.board boot.old }
+    ensures halt { result ≡ halt_of boot.old.board (reverse events.now) }
+    ensures machine { IsAfter boot.old.board (steps_made boot.old.board (reverse events.now)) boot.new }
 {
     for index in 0..events.len() {
         make_step(boot, events, index);

@@ -23,16 +23,16 @@ use armcaps_text::laws::readings_are_sound;
 #[tactic(auto, unfolding(crate::specs::Document::document))]
 pub fn document_fields_hold()
     ensures system { (input : List ℕ) (found : Document) (reg : SysReg) → document input ≡ Ok found
-        → IsMadeOf (system_field found.reading.overrides (admitted_in found) reg) (rows_of reg)
-        (system_word found.reading.overrides (admitted_in found) reg) }
+        → IsMadeOf (system_field found.reading.board.overrides (admitted_in found) reg) (rows_of reg)
+        (system_word found.reading.board.overrides (admitted_in found) reg) }
     ensures users { (input : List ℕ) (found : Document) (reg : SysReg) → document input ≡ Ok found
-        → IsMadeOf (user_field found.reading.overrides (admitted_in found) reg) (rows_of reg)
-        (user_word found.reading.overrides (admitted_in found) reg) }
+        → IsMadeOf (user_field found.reading.board.overrides (admitted_in found) reg) (rows_of reg)
+        (user_word found.reading.board.overrides (admitted_in found) reg) }
     ensures ignored { (input : List ℕ) (found : Document) (reg : SysReg) (index : ℕ) (row : Row) (value : ℤ)
         → document input ≡ Ok found → slice_get (rows_of reg) index ≡ Some row
-        → override_of found.reading.overrides reg index ≡ Some value
-        → merged row.rule row.safe value (field_in row (core_word (core_at found.reading.cores found.reading.boot) reg)) ≢ value
-        → system_field found.reading.overrides (admitted_in found) reg index row
+        → override_of found.reading.board.overrides reg index ≡ Some value
+        → merged row.rule row.safe value (field_in row (core_word (core_at found.reading.board.cores found.reading.board.boot) reg)) ≢ value
+        → system_field found.reading.board.overrides (admitted_in found) reg index row
         ≡ fold_of row.rule row.safe (field_values (admitted_in found) reg row) }
 {
     readings_are_sound();

@@ -8,7 +8,7 @@ ghost use Rattle.armcaps_patch.specs.Kept.{StandsFor};
 ghost use Rattle.armcaps_text.specs.Document.{reading_of};
 ghost use Rattle.armcaps_text.specs.Formats.{format_of};
 ghost use Rattle.armcaps_text.specs.Sound.{IsSound};
-ghost use Rattle.armcaps_top.specs.Answer.{answer_of, board_of, of_document};
+ghost use Rattle.armcaps_top.specs.Answer.{answer_of, of_document};
 ghost use Rattle.armcaps_top.specs.Inside.{Comes, Ends, as_bytes};
 ghost use Rattle.armcaps_top.specs.Patch.{image_for};
 ghost use Rattle.armcaps_top.specs.Run.{change};
@@ -34,10 +34,10 @@ pub fn plan_of(
     requires sound { IsSound (reading_of machine) }
     requires none { machines.old.items ≡ [] }
     requires image { length image.now ≡ machine.image }
-    ensures plan { IfOk result (λ plan. StandsFor plan (features_of_findings (findings_after (board_of (reading_of machine))
+    ensures plan { IfOk result (λ plan. StandsFor plan (features_of_findings (findings_after (reading_of machine).board
         (history machine.steps.items)) machine.names) image.now machine.layout) }
     ensures comes { Comes (of_document Command.Patch (Ok (record { reading = reading_of machine; image = image.now }))) machines.new.items
-        (as_bytes (λ plan. image_for (board_of (reading_of machine)) (history machine.steps.items) (reading_of machine) image.now) result) }
+        (as_bytes (λ plan. image_for (reading_of machine).board (history machine.steps.items) (reading_of machine) image.now) result) }
 {
     let layout = machine.layout;
     let names = bring(alloc, machine, machines)?;

@@ -6,10 +6,10 @@ ghost use Rattle.armcaps_enc.specs.Registers.{tracked};
 ghost use Rattle.armcaps_tables.specs.Core.{Core};
 ghost use Rattle.armcaps_tables.specs.Overriding.{FieldOverrides};
 ghost use Rattle.armcaps_sanit.specs.System.{IsSystemOf};
-ghost use Rattle.armcaps_boot.specs.After.{IsAfter};
 ghost use Rattle.armcaps_boot.specs.Admission.{halt_of, steps_made};
+ghost use Rattle.armcaps_boot.specs.After.{IsAfter};
 ghost use Rattle.armcaps_board.specs.declared.event.Event.TheVariants as Event;
-ghost use Rattle.armcaps_top.specs.Bringing.{IsAt, board_in, steps_before};
+ghost use Rattle.armcaps_top.specs.Bringing.{IsAt, steps_before};
 ghost use Rattle.armcaps_text.specs.Document.{reading_of};
 ghost use Rattle.armcaps_text.specs.Sound.{IsSound};
 ghost use Rattle.armcaps_top.specs.Inside.{Answers, as_bytes};
@@ -106,11 +106,11 @@ fn trace_step(
     index: usize,
 ) -> Result<Option<Halt>, AllocError>
     requires inside { index < length events.now }
-    requires at { IsAt index events.now (board_in boot.old) boot.old }
-    ensures after { IsAfter (board_in boot.old) (steps_before (index + 1) events.now) boot.new }
-    ensures halt { IfOk result (λ halt. halt ≡ halt_of (board_in boot.old) (steps_before (index + 1) events.now)) }
+    requires at { IsAt index events.now boot.old.board boot.old }
+    ensures after { IsAfter boot.old.board (steps_before (index + 1) events.now) boot.new }
+    ensures halt { IfOk result (λ halt. halt ≡ halt_of boot.old.board (steps_before (index + 1) events.now)) }
     ensures lines { result ≡ Ok None → string_bytes text.new ≡ string_bytes text.old
-        ++ step_lines (board_in boot.old) (reverse events.now) (steps_before index events.now) (slice_index_or events.now index (Event.Check 0)) }
+        ++ step_lines boot.old.board (reverse events.now) (steps_before index events.now) (slice_index_or events.now index (Event.Check 0)) }
 {
     let before = *boot.system();
     let reply = make_step(boot, events, index);
@@ -130,10 +130,10 @@ fn trace_steps(
     boot: &mut Boot,
     events: &[Event],
 ) -> Result<Option<Halt>, AllocError>
-    requires { IsAt 0 events.now (board_in boot.old) boot.old }
-    ensures halt { IfOk result (λ halt. halt ≡ halt_of (board_in boot.old) (reverse events.now)) }
-    ensures machine { IsOk result → IsAfter (board_in boot.old) (steps_made (board_in boot.old) (reverse events.now)) boot.new }
-    ensures text { result ≡ Ok None → string_bytes text.new ≡ string_bytes text.old ++ trace_of (board_in boot.old) (reverse events.now) }
+    requires { IsAt 0 events.now boot.old.board boot.old }
+    ensures halt { IfOk result (λ halt. halt ≡ halt_of boot.old.board (reverse events.now)) }
+    ensures machine { IsOk result → IsAfter boot.old.board (steps_made boot.old.board (reverse events.now)) boot.new }
+    ensures text { result ≡ Ok None → string_bytes text.new ≡ string_bytes text.old ++ trace_of boot.old.board (reverse events.now) }
 {
     text.push_str("armcaps trace 1\n")?;
     for index in 0..events.len() {

@@ -3,7 +3,6 @@ use Rattle.std.specs.List.{flat_map}
 use Rattle.armcaps_board.specs.Steps.{events_of, history}
 use Rattle.armcaps_board.specs.declared.step_line.StepLine.{StepLine}
 use Rattle.armcaps_text.specs.Document.{reading_of}
-use Rattle.armcaps_top.specs.Answer.{board_of}
 use Rattle.armcaps_top.proofs.Answered.{begins, board_is, completes, history_is, is_board}
 use Rattle.armcaps_top.proofs.bringing.begin.Goals as goal
 
@@ -16,5 +15,5 @@ returns-clause-begun c =
       complete = completes reading c.in_ok-events.events.items c.in-Ok.boot sound events c.in-Ok.ensures.first;
       board = board_is reading c.in-Ok.boot c.in-Ok.ensures.first;
       steps = history_is reading c.in_ok-events.events.items events;
-      safe = c.documents_are_safe.ensures (board_of reading) (history reading.steps) (is_board reading sound) sound.order sound.complete;
+      safe = c.documents_are_safe.ensures reading.board (history reading.steps) (is_board reading sound) sound.order sound.complete;
     }

@@ -5,7 +5,7 @@ use Rattle.armcaps_board.specs.Steps.{history}
 use Rattle.armcaps_boot.specs.Findings.{findings_after}
 use Rattle.armcaps_patch.specs.Features.{features_of_findings}
 use Rattle.armcaps_text.specs.Document.{Reading, reading_of}
-use Rattle.armcaps_top.specs.Answer.{board_of, of_document}
+use Rattle.armcaps_top.specs.Answer.{of_document}
 use Rattle.armcaps_top.specs.Document.{Document, document}
 use Rattle.armcaps_top.specs.Inside.{Comes}
 use Rattle.armcaps_top.specs.Patch.{image_for}
@@ -19,8 +19,8 @@ pub returns-in-Ok-write : goal.returns-in-Ok-write
 returns-in-Ok-write g c =
     let reading : Reading = reading_of c.in-Ok.read.0 in
     let image : List ℕ = c.bytes_from-image.result.now in
-    let features : Features = features_of_findings (findings_after (board_of reading) (history reading.steps)) reading.names in
-    let text : List ℕ = image_for (board_of reading) (history reading.steps) reading image in
+    let features : Features = features_of_findings (findings_after reading.board (history reading.steps)) reading.names in
+    let text : List ℕ = image_for reading.board (history reading.steps) reading image in
     let machines = c.plan_of.new.machines.items in
     let is = document_is reading image c.args.bytes.now c.in-Ok.read.1 c.in-Ok.ensures.document c.bytes_from-image.ensures in
     wrote Patch (of_document Patch (document c.args.bytes.now)) (change g.O.Sink.held g.O.Sink.faults c.args.out.now c.write.new.sink) machines text
@@ -31,8 +31,8 @@ pub returns : goal.returns
 returns g c =
     let reading : Reading = reading_of c.in-Ok.read.0 in
     let image : List ℕ = c.bytes_from-image.result.now in
-    let features : Features = features_of_findings (findings_after (board_of reading) (history reading.steps)) reading.names in
-    let text : List ℕ = image_for (board_of reading) (history reading.steps) reading image in
+    let features : Features = features_of_findings (findings_after reading.board (history reading.steps)) reading.names in
+    let text : List ℕ = image_for reading.board (history reading.steps) reading image in
     let machines = c.plan_of.new.machines.items in
     let is = document_is reading image c.args.bytes.now c.in-Ok.read.1 c.in-Ok.ensures.document c.bytes_from-image.ensures in
     wrote_part Patch (of_document Patch (document c.args.bytes.now)) (change g.O.Sink.held g.O.Sink.faults c.args.out.now c.write.new.sink) machines text

@@ -4,7 +4,7 @@ use Rattle.armcaps_board.specs.declared.event.Event.{Event}
 use Rattle.armcaps_board.specs.declared.event.Event.TheVariants.{Check}
 use Rattle.armcaps_boot.specs.declared.reply.Reply.{Reply}
 use Rattle.armcaps_board.specs.Board.{Board}
-use Rattle.armcaps_top.specs.Bringing.{board_in, steps_before}
+use Rattle.armcaps_top.specs.Bringing.{steps_before}
 use Rattle.armcaps_top.specs.Trace.{admitted_by, changed_lines, step_line, step_lines}
 use Rattle.armcaps_top.proofs.Steps.{steps_more}
 use Rattle.armcaps_top.proofs.Texts.{two_pieces}
@@ -14,7 +14,7 @@ use Rattle.armcaps_top.proofs.commands.trace.trace_step.Goals as goal
 pub returns-clause-lines : goal.returns-clause-lines
 unfolding step_lines
 returns-clause-lines c = λ done.
-    let board : Board = board_in c.args.boot.now in
+    let board : Board = c.args.boot.now.board in
     let events : List Event = c.args.events.now in
     let index : ℕ = c.args.index in
     let past : List Event = steps_before index events in

@@ -3,7 +3,7 @@ use Rattle.std.specs.Prelude.{reverse, Ok}
 use Rattle.armcaps_board.specs.declared.event.Event.{Event}
 use Rattle.armcaps_board.specs.declared.event.Event.TheVariants.{Check}
 use Rattle.armcaps_board.specs.Board.{Board}
-use Rattle.armcaps_top.specs.Bringing.{IsAt, board_in, steps_before}
+use Rattle.armcaps_top.specs.Bringing.{IsAt, steps_before}
 use Rattle.armcaps_top.specs.Trace.{lines_of_steps, step_lines, trace_of}
 use Rattle.armcaps_top.proofs.Brought.{board_kept, finished, goes_on, halt_found, stopped}
 use Rattle.armcaps_top.proofs.Steps.{none_of, some_of}
@@ -21,23 +21,23 @@ pub trace_step-requires-clause-at : goal.trace_step-requires-clause-at
 trace_step-requires-clause-at c =
     let at = c.loop-index.invariant.at in
     subst (λ (board : Board). IsAt c.loop-index.index c.args.events.now board c.loop-index.boot)
-    (sym (board_kept (board_in c.args.boot.now) (steps_before c.loop-index.index c.args.events.now) c.loop-index.boot at.after)) at
+    (sym (board_kept c.args.boot.now.board (steps_before c.loop-index.index c.args.events.now) c.loop-index.boot at.after)) at
 
 pub returns-then-is_some-clause-halt : goal.returns-then-is_some-clause-halt
 returns-then-is_some-clause-halt c =
     let some = some_of c.in_ok-halt.halt (sym c.is_some.ensures ∙ c.if-is_some.true) in
-    some.1 ∙ sym (stopped (board_in c.args.boot.now) c.loop-index.index c.args.events.now c.loop-index.boot c.trace_step.new.boot some.0 c.loop-index-test.true
+    some.1 ∙ sym (stopped c.args.boot.now.board c.loop-index.index c.args.events.now c.loop-index.boot c.trace_step.new.boot some.0 c.loop-index-test.true
     c.loop-index.invariant.at c.trace_step.ensures.after (halt_found c.trace_step.ensures.after c.in_ok-halt.ensures.halt ∙ some.1)).halt_is
 
 pub returns-then-is_some-clause-machine : goal.returns-then-is_some-clause-machine
 returns-then-is_some-clause-machine c = λ done.
     let some = some_of c.in_ok-halt.halt (sym c.is_some.ensures ∙ c.if-is_some.true) in
-    (stopped (board_in c.args.boot.now) c.loop-index.index c.args.events.now c.loop-index.boot c.trace_step.new.boot some.0 c.loop-index-test.true
+    (stopped c.args.boot.now.board c.loop-index.index c.args.events.now c.loop-index.boot c.trace_step.new.boot some.0 c.loop-index-test.true
     c.loop-index.invariant.at c.trace_step.ensures.after (halt_found c.trace_step.ensures.after c.in_ok-halt.ensures.halt ∙ some.1)).made
 
 pub loop-index-preserved : goal.loop-index-preserved
 loop-index-preserved c =
-    let board : Board = board_in c.args.boot.now in
+    let board : Board = c.args.boot.now.board in
     let events : List Event = c.args.events.now in
     let index : ℕ = c.loop-index.index in
     let none = none_of c.in_ok-halt.halt (sym c.is_some.ensures ∙ c.if-is_some.false) in
@@ -51,16 +51,16 @@ loop-index-preserved c =
 
 pub returns-clause-halt : goal.returns-clause-halt
 returns-clause-halt c =
-    sym (finished (board_in c.args.boot.now) c.loop-index.index c.args.events.now c.loop-index.boot c.loop-index-test.false c.loop-index.auto.index-end c.loop-index.invariant.at).halt_is
+    sym (finished c.args.boot.now.board c.loop-index.index c.args.events.now c.loop-index.boot c.loop-index-test.false c.loop-index.auto.index-end c.loop-index.invariant.at).halt_is
 
 pub returns-clause-machine : goal.returns-clause-machine
 returns-clause-machine c = λ done.
-    (finished (board_in c.args.boot.now) c.loop-index.index c.args.events.now c.loop-index.boot c.loop-index-test.false c.loop-index.auto.index-end c.loop-index.invariant.at).made
+    (finished c.args.boot.now.board c.loop-index.index c.args.events.now c.loop-index.boot c.loop-index-test.false c.loop-index.auto.index-end c.loop-index.invariant.at).made
 
 pub returns-clause-text : goal.returns-clause-text
 unfolding trace_of
 returns-clause-text c = λ done.
-    let board : Board = board_in c.args.boot.now in
+    let board : Board = c.args.boot.now.board in
     let all = (finished board c.loop-index.index c.args.events.now c.loop-index.boot c.loop-index-test.false c.loop-index.auto.index-end c.loop-index.invariant.at).steps in
     three_pieces (string_bytes c.args.text.now) (codes "armcaps trace 1\n") (lines_of_steps board (reverse c.args.events.now) (reverse c.args.events.now)) (codes "end\n")
     _ _ _ refl

@@ -1,11 +1,11 @@
 use Rattle.std.proofs.Common.{◌≡◌, ◌++◌, codes, string_bytes}
 use Rattle.std.specs.Prelude.{reverse}
-use Rattle.armcaps_top.specs.Bringing.{IsAt, board_in, steps_before}
+use Rattle.armcaps_top.specs.Bringing.{IsAt, steps_before}
 use Rattle.armcaps_top.specs.Trace.{lines_of_steps}
 use Rattle.armcaps_top.proofs.commands.trace.trace_steps.Given as goal
 
 abbrev pub invariant-loop-index : goal.invariant-loop-index
 invariant-loop-index l = record {
-  at : IsAt l.index l.events (board_in l.fn.boot) l.boot;
-  text : string_bytes l.text ≡ string_bytes l.fn.text ++ codes "armcaps trace 1\n" ++ lines_of_steps (board_in l.fn.boot) (reverse l.events) (steps_before l.index l.events);
+  at : IsAt l.index l.events l.fn.boot.board l.boot;
+  text : string_bytes l.text ≡ string_bytes l.fn.text ++ codes "armcaps trace 1\n" ++ lines_of_steps l.fn.boot.board (reverse l.events) (steps_before l.index l.events);
 }
