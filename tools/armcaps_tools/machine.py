@@ -10,6 +10,10 @@ from . import linux, text
 BUILT = pathlib.Path(__file__).resolve().parent.parent.parent / "crates/armcaps/out/armcaps"
 
 
+class Stops(text.Unreadable):
+    """A text whose machine stops, so that there is no report."""
+
+
 def program():
     """The program: $ARMCAPS, else the one on the path, else the one that this repository built."""
     found = os.environ.get("ARMCAPS") or shutil.which("armcaps") or (str(BUILT) if BUILT.exists() else None)
@@ -20,9 +24,14 @@ def program():
 
 def report(given):
     """The report of a text."""
-    done = subprocess.run([program(), "report"], input=given, capture_output=True, check=False)
+    try:
+        done = subprocess.run([program(), "report"], input=given, capture_output=True, check=False)
+    except OSError as error:
+        raise text.Unreadable(f"{program()} does not run: {error.strerror}") from None
     if done.returncode:
         told = done.stderr.decode("utf-8", "replace").strip()
+        if done.returncode == 7:
+            raise Stops(told)
         raise text.Unreadable(f"`armcaps report` refuses the text: {told or f'status {done.returncode}'}")
     return text.report(done.stdout)
 
@@ -42,12 +51,21 @@ def facts(given):
 
 def before_finalise(given):
     """The cores that are brought up before the system is settled."""
+    return steps_before_finalise(given, ("store", "online"))
+
+
+def begun_before_finalise(given):
+    """The cores whose first step comes before the system is settled."""
+    return steps_before_finalise(given, ("check", "online"))
+
+
+def steps_before_finalise(given, words):
     found = set()
     for line in given.decode("utf-8", "replace").splitlines():
         tokens = line.split()
         if tokens[:1] == ["finalise"]:
             break
-        if len(tokens) == 2 and tokens[0] in ("store", "online"):
+        if len(tokens) == 2 and tokens[0] in words:
             found.add(text.number(tokens[1]))
     return found
 

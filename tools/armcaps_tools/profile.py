@@ -132,6 +132,19 @@ def aliases():
     return found
 
 
+@functools.lru_cache(maxsize=None)
+def errata():
+    """The models and versions that have each erratum."""
+    return table("errata")
+
+
+@functools.lru_cache(maxsize=None)
+def meanings():
+    """What each field says, and its values in words where the table has them."""
+    return {row["field"]: row for row in table("meanings")}
+
+
+@functools.lru_cache(maxsize=None)
 def tests(name):
     """What each row of the capabilities or hwcaps asks: a list of tests, of which one is enough."""
     if not (DATA / f"{name}.tsv").exists():

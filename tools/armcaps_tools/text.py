@@ -66,6 +66,7 @@ class Report:
     notes: dict
     capabilities: list
     flags: list
+    lengths: list
 
 
 def report(data):
@@ -73,7 +74,7 @@ def report(data):
     lines = data.decode("utf-8", "replace").splitlines()
     if not lines or lines[0] != "armcaps report 1" or lines[-1] != "end":
         raise Unreadable("no report: it does not begin with `armcaps report 1` and end with `end`")
-    found = Report([], {}, {}, [], {}, [], [])
+    found = Report([], {}, {}, [], {}, [], [], [])
     for line in lines[1:-1]:
         word, _, rest = line.partition(" ")
         tokens = rest.split(" ")
@@ -89,15 +90,22 @@ def report(data):
             found.capabilities.append(tokens[1])
         elif word == "flags":
             found.flags += tokens
+        elif word == "vl":
+            found.lengths.append(int(rest))
     return found
 
 
 def spans(numbers):
-    """Rising numbers in short, as 0-3, 7."""
-    found = []
-    for value in numbers:
-        if found and found[-1][1] == value - 1:
-            found[-1][1] = value
-        else:
-            found.append([value, value])
-    return ", ".join(str(low) if low == high else f"{low}-{high}" for low, high in found)
+    """Rising numbers in short, as 0-3, 7; and 0-6/2 for 0, 2, 4, 6."""
+    numbers, found, at = list(numbers), [], 0
+    while at < len(numbers):
+        step = numbers[at + 1] - numbers[at] if at + 1 < len(numbers) else 1
+        end = at
+        while end + 1 < len(numbers) and numbers[end + 1] - numbers[end] == step:
+            end += 1
+        if step > 1 and end - at < 3:
+            end = at
+        low, high = numbers[at], numbers[end]
+        found.append(f"{low}-{high}" + (f"/{step}" if step > 1 else "") if high > low else str(low))
+        at = end + 1
+    return ", ".join(found)

@@ -19,7 +19,7 @@ MEMORY = re.compile(
 def speaks_of(line):
     """The registers of a line; a line of memory speaks of its address, and a name alone of the next line's number."""
     if MEMORY.match(line):
-        return line
+        return line.split()[0]
     found = registers_in(line)[0]
     return "a name" if found and found[0].written is None else tuple(sorted(named.name for named in found))
 
