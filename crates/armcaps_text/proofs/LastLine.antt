@@ -9,7 +9,7 @@ use Rattle.armcaps_text.specs.declared.format.Format.{Format}
 use Rattle.armcaps_text.specs.declared.kind.TextKind.{TextKind}
 use Rattle.armcaps_text.specs.declared.kind.TextKind.TheVariants as kind
 use Rattle.armcaps_text.specs.declared.line.Line.{Line}
-use Rattle.armcaps_text.specs.declared.line.Line.TheVariants.{Skipped, Unknown, Malformed, Header, Core, Register, VectorLengths, Boot, CommandLine, Step, Number, Given, Conduit, Callback, Table, Image}
+use Rattle.armcaps_text.specs.declared.line.Line.TheVariants.{Image}
 
 -- where no kind holds, none of those asked does
 pub fails : (asked : List (Bool × TextKind)) (k : ℕ) (d : Bool × TextKind) → first_true asked ≡ None → k < length asked → (get_or asked k d).0 ≡ false
@@ -48,22 +48,8 @@ some_boot (Some x) h = refl
 
 -- the last line is one that gives the image's length
 pub last_is : (line : Line (List ℕ)) → is_last line ≡ true → (length : ℕ) × (line ≡ Image length)
-last_is Skipped h = cc
-last_is Unknown h = cc
-last_is (Malformed form kind) h = cc
-last_is Header h = cc
-last_is (Core core) h = cc
-last_is (Register reg word) h = cc
-last_is (VectorLengths lengths) h = cc
-last_is (Boot core) h = cc
-last_is (CommandLine text) h = cc
-last_is (Step step) h = cc
-last_is (Number number capability) h = cc
-last_is (Given number on) h = cc
-last_is (Conduit conduit) h = cc
-last_is (Callback offset kind) h = cc
-last_is (Table layout) h = cc
 last_is (Image length) h = (length, refl)
+last_is line h = cc
 
 -- what the last line leaves has a boot core and an image's length
 pub boot_known : (format : Format) (kept now : Before) (line : Line (List ℕ)) → kind_after format kept line ≡ None → is_last line ≡ true → now ≡ learned kept line → IsSome now.boot

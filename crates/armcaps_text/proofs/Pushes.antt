@@ -1,51 +1,14 @@
 -- What one more line at the end changes.
-use Rattle.std.proofs.Common.{◌≡◌, ◌≢◌, ℕ, zero, suc, ◌+◌, ◌-◌, ◌<◌, ◌||◌, max, Bool, true, false, nat_lt, cond, List, [], ◌∷◌, ◌++◌, length, map, find, filter_map, Option, Some, None, unwrap_or, refl, sym, ap, ◌∙◌, arith, set, get_or, append-nil}
-use Rattle.std.specs.Option.{option_to_list, option_or}
+use Rattle.std.proofs.Common.{◌≡◌, ◌≢◌, ℕ, zero, suc, ◌+◌, ◌-◌, ◌<◌, ◌||◌, Bool, List, [], ◌∷◌, ◌++◌, length, map, filter_map, Option, Some, None, unwrap_or, refl, sym, ap, ◌∙◌, arith, set, get_or}
+use Rattle.std.specs.Option.{option_to_list}
 use Rattle.std.specs.List.{list_any, range_with_len, cons_option, last_or}
-use Rattle.std.proofs.lemmas.Bool.Decides.{nat_tests}
-use Rattle.std.proofs.lemmas.List.Folds.{find-append, list_any-append}
+use Rattle.std.proofs.lemmas.List.Folds.{list_any-append}
 use Rattle.std.proofs.lemmas.List.Elements.{filter_map-append}
 use Rattle.armcaps_text.proofs.Groups.{onto_last, last_group}
-
--- nothing where no item passes
-pub find_none : {X : Type 0} (p : X → Bool) (xs : List X) → list_any p xs ≡ false → find p xs ≡ None
-find_none p [] h = refl
-find_none p (x ∷ xs) h = by_first (p x) h (find_none p xs)
-  where
-    by_first : (passes : Bool) → (passes || list_any p xs) ≡ false → (list_any p xs ≡ false → find p xs ≡ None) → cond passes (Some x) (find p xs) ≡ None
-    by_first true h ih = cc
-    by_first false h ih = ih h
-
-pub find-push_no : {X : Type 0} (p : X → Bool) (xs : List X) (x : X) → p x ≡ false → find p (xs ++ x ∷ []) ≡ find p xs
-find-push_no {X} p xs x h = find-append p xs (x ∷ []) ∙ rw h (or_none (find p xs))
-  where
-    or_none : (o : Option X) → option_or o None ≡ o
-    or_none None = refl
-    or_none (Some y) = refl
-
-pub find-push_yes : {X : Type 0} (p : X → Bool) (xs : List X) (x : X) → p x ≡ true → find p xs ≡ None → find p (xs ++ x ∷ []) ≡ Some x
-find-push_yes p xs x h none = find-append p xs (x ∷ []) ∙ rw (none, h) refl
+use Rattle.std.proofs.Math.Bool.{or-false}
 
 pub list_any-push : {X : Type 0} (p : X → Bool) (xs : List X) (x : X) → list_any p (xs ++ x ∷ []) ≡ (list_any p xs || p x)
-list_any-push p xs x = list_any-append p xs (x ∷ []) ∙ ap (λ (b : Bool). list_any p xs || b) (or_false (p x))
-  where
-    or_false : (b : Bool) → (b || false) ≡ b
-    or_false true = refl
-    or_false false = refl
-
-pub list_any-push_no : {X : Type 0} (p : X → Bool) (xs : List X) (x : X) → p x ≡ false → list_any p (xs ++ x ∷ []) ≡ list_any p xs
-list_any-push_no p xs x h = list_any-push p xs x ∙ rw h (or_false (list_any p xs))
-  where
-    or_false : (b : Bool) → (b || false) ≡ b
-    or_false true = refl
-    or_false false = refl
-
-pub list_any-push_yes : {X : Type 0} (p : X → Bool) (xs : List X) (x : X) → p x ≡ true → list_any p (xs ++ x ∷ []) ≡ true
-list_any-push_yes p xs x h = list_any-push p xs x ∙ rw h (or_true (list_any p xs))
-  where
-    or_true : (b : Bool) → (b || true) ≡ true
-    or_true true = refl
-    or_true false = refl
+list_any-push p xs x = list_any-append p xs (x ∷ []) ∙ ap (λ (b : Bool). list_any p xs || b) (or-false (p x))
 
 pub filter_map-push : {X Y : Type 0} (h : X → Option Y) (xs : List X) (x : X) → filter_map h (xs ++ x ∷ []) ≡ filter_map h xs ++ option_to_list (h x)
 filter_map-push {Y} h xs x = filter_map-append h xs (x ∷ []) ∙ ap (λ (ys : List Y). filter_map h xs ++ ys) (one (h x))
@@ -53,16 +16,6 @@ filter_map-push {Y} h xs x = filter_map-append h xs (x ∷ []) ∙ ap (λ (ys : 
     one : (o : Option Y) → cons_option o [] ≡ option_to_list o
     one None = refl
     one (Some y) = refl
-
-pub filter_map-push_no : {X Y : Type 0} (h : X → Option Y) (xs : List X) (x : X) → h x ≡ None → filter_map h (xs ++ x ∷ []) ≡ filter_map h xs
-filter_map-push_no h xs x none = filter_map-push h xs x ∙ rw none (append-nil (filter_map h xs))
-
-pub map-same : {X Y : Type 0} (f g : X → Y) → ((x : X) → f x ≡ g x) → (xs : List X) → map f xs ≡ map g xs
-map-same f g h [] = refl
-map-same f g h (x ∷ xs) =
-    let first = h x in
-    let more = map-same f g h xs in
-    cc
 
 -- an item that the last group's value does not depend on
 pub map_onto_last-same : {X Y : Type 0} (f : List X → Y) (x : X) → ((group : List X) → f (group ++ x ∷ []) ≡ f group) → (groups : List (List X)) → map f (onto_last x groups) ≡ map f groups
@@ -118,6 +71,3 @@ map_range-set old new place value others here (suc n) first (suc steps) h =
     let same = others first apart in
     let more = map_range-set old new place value others here n (first + 1) steps (omega arith) in
     cc
-
-pub nat_lt-max : (n a b : ℕ) → nat_lt n (max a b) ≡ (nat_lt n a || nat_lt n b)
-nat_lt-max n a b = grind (arith, nat_tests)

@@ -1,5 +1,5 @@
 -- What reads is sound, and stands within its input.
-use Rattle.std.proofs.Common.{◌≡◌, ℕ, zero, suc, ◌+◌, ◌<◌, ◌≤◌, ◌^◌, ◌==◌, ◌||◌, Bool, true, false, cond, List, [], ◌∷◌, ◌++◌, length, map, take, find, Option, Some, None, is_some, option_and_then, refl, sym, ap, subst, ◌∙◌, arith}
+use Rattle.std.proofs.Common.{◌≡◌, ℕ, zero, suc, ◌+◌, ◌<◌, ◌≤◌, ◌^◌, ◌==◌, ◌||◌, Bool, true, false, cond, List, [], ◌∷◌, length, map, take, find, Option, Some, None, is_some, option_and_then, refl, sym, ap, subst, ◌∙◌, arith}
 use Rattle.std.proofs.lemmas.List.{length-map}
 use Rattle.std.specs.List.{range_with_len, slice_get, slice_split, onto_first}
 use Rattle.std.specs.Option.{option_map_or}
@@ -25,6 +25,7 @@ use Rattle.armcaps_text.proofs.LastLine.{last_is}
 use Rattle.armcaps_text.proofs.LineByLine.{before-push}
 use Rattle.armcaps_text.proofs.LineLemmas.{all_but_last-cons, mebibyte_within}
 use Rattle.armcaps_text.proofs.Soundness.{SoFar, sound_at_first, sound_next, sound_last}
+use Rattle.armcaps_logic.proofs.Lists.{item_at}
 
 -- the first number of a range that passes
 record IsFirst (p : ℕ → Bool) (start count place : ℕ) : Type 0 where
@@ -53,19 +54,6 @@ found p (suc count) start place h = by_first (p start) refl h (found p count (st
           passes = rest.passes;
           earlier = λ k low high. one_of k (k == start) refl e low high rest.earlier;
         }
-
--- the item at a place
-record IsItem {X : Type 0} (xs : List X) (n : ℕ) (x : X) : Type 0 where
-  here : slice_get xs n ≡ Some x
-  taken : take (n + 1) xs ≡ take n xs ++ x ∷ []
-
-item_at : {X : Type 0} (xs : List X) (n : ℕ) → n < length xs → (x : X) × IsItem xs n x
-item_at {X} [] n h = absurd (omega arith)
-item_at {X} (y ∷ ys) zero h = (y, record { here = refl; taken = refl })
-item_at {X} (y ∷ ys) (suc n) h =
-    let item = item_at ys n (omega (arith, h)) in
-    let next : suc n + 1 ≡ suc (n + 1) = omega arith in
-    (item.0, record { here = item.1.here; taken = ap (λ (m : ℕ). take m (y ∷ ys)) next ∙ ap (λ (zs : List X). y ∷ zs) item.1.taken })
 
 -- lines without a kind
 so_far : (format : Format) (lines : List (Line (List ℕ))) (count : ℕ) → count ≤ length lines → ((k : ℕ) → k < count → kind_at format lines k ≡ None) → SoFar format (before (take count lines))

@@ -1,11 +1,14 @@
 -- What holds of what lines without a kind come to.
-use Rattle.std.proofs.Common.{◌≡◌, ℕ, ◌+◌, ◌*◌, ◌^◌, ◌<◌, ◌≤◌, ◌==◌, ◌&&◌, ◌||◌, not, Bool, true, false, nat_lt, nat_le, List, [], ◌∷◌, ◌++◌, length, Option, Some, None, is_none, option_and_then, unwrap_or, refl, sym, subst, ◌∙◌, arith, length-append, append-nil, lit<}
+use Rattle.std.proofs.Common.{◌≡◌, ℕ, ◌+◌, ◌*◌, ◌^◌, ◌<◌, ◌≤◌, ◌==◌, ◌&&◌, ◌||◌, not, Bool, true, false, nat_lt, nat_le, List, [], ◌∷◌, ◌++◌, length, Option, Some, None, is_none, unwrap_or, refl, sym, subst, ◌∙◌, arith, length-append, append-nil, lit<, ap}
 use Rattle.std.specs.Option.{option_map_or, option_or}
 use Rattle.std.proofs.Math.ListN.{length-set}
 use Rattle.std.proofs.lemmas.Bool.Decides.{nat_tests}
 use Rattle.armcaps_alt.specs.declared.table_place.Layout.{Layout}
-use Rattle.armcaps_board.specs.Order.{in_order, is_complete}
-use Rattle.armcaps_board.specs.Steps.{history}
+use Rattle.armcaps_board.specs.Board.{Board}
+use Rattle.armcaps_board.specs.Order.{in_order, is_complete, is_in_turn, is_wrong_finalise}
+use Rattle.armcaps_board.specs.Steps.{core_of, first_event, history}
+use Rattle.armcaps_board.proofs.Lines.{order-none, order-push}
+use Rattle.armcaps_board.proofs.Turns.{order-same}
 use Rattle.armcaps_board.specs.declared.step_line.StepLine.{StepLine}
 use Rattle.armcaps_cmdline.proofs.Fitting.{command_line_fits, listed}
 use Rattle.armcaps_cmdline.proofs.IdRegisters.{outside}
@@ -16,13 +19,16 @@ use Rattle.armcaps_text.specs.Kinds.{kinds_asked, kind_after, is_second_header, 
 use Rattle.armcaps_text.specs.Learned.{zero_core, learned}
 use Rattle.armcaps_text.specs.Meaning.{section_of}
 use Rattle.armcaps_text.specs.Sound.{IsSound}
-use Rattle.armcaps_text.specs.Steps.{core_of, last_step, in_turn, is_in_flight, is_finalise, is_final}
 use Rattle.armcaps_text.specs.declared.format.Format.{Format}
 use Rattle.armcaps_text.specs.declared.kind.TextKind.TheVariants as kind
 use Rattle.armcaps_text.specs.declared.line.Line.{Line}
-use Rattle.armcaps_text.specs.declared.line.Line.TheVariants.{Skipped, Unknown, Malformed, Header, Core, Register, VectorLengths, Boot, CommandLine, Step, Number, Given, Conduit, Callback, Table, Image}
-use Rattle.armcaps_text.proofs.History.{order-push, order_none, final_known, flight_none}
+use Rattle.armcaps_text.specs.declared.line.Line.TheVariants.{Core, Register, VectorLengths, Boot, Step, Image}
 use Rattle.armcaps_text.proofs.LastLine.{fails, last_of_four, boot_there}
+use Rattle.std.proofs.lemmas.Bool.{and_from, not-false}
+
+-- the cores begun so far, with this boot core
+abbrev begun : Before → ℕ → Board
+begun kept core = record { cores = kept.cores; boot = core; overrides = [] }
 
 -- a boot core is one of the cores, and no core begins after it; there are not too many cores; steps stand after a boot core, and
 -- each may come after those before it
@@ -30,15 +36,15 @@ pub record SoFar (format : Format) (kept : Before) : Type 0 where
   pub boot : (core : ℕ) → kept.boot ≡ Some core → (core < length kept.cores) × (2 ≤ kept.section)
   pub few : length kept.cores ≤ format.cores
   pub early : kept.boot ≡ None → kept.steps ≡ []
-  pub order : (core : ℕ) → kept.boot ≡ Some core → in_order (length kept.cores) core (history kept.steps) ≡ true
+  pub order : (core : ℕ) → kept.boot ≡ Some core → in_order (begun kept core) (history kept.steps) ≡ true
 
 pub sound_at_first : (format : Format) → SoFar format (before [])
 unfolding before
 sound_at_first format = record { boot = λ core h. cc; few = omega arith; early = λ h. refl; order = λ core h. cc }
 
--- steps in order are so whatever the lists that they stand in are called
-order_same : (old new boot : ℕ) (past now : List StepLine) → new ≡ old → now ≡ past → in_order old boot (history past) ≡ true → in_order new boot (history now) ≡ true
-order_same old new boot past now count steps ordered = rw (count, steps) ordered
+-- steps in order are so by the number of the cores and the boot core
+order_same : (old new : Board) (past now : List StepLine) → length new.cores ≡ length old.cores → new.boot ≡ old.boot → now ≡ past → in_order old (history past) ≡ true → in_order new (history now) ≡ true
+order_same old new past now count boot steps ordered = ap (λ (lines : List StepLine). in_order new (history lines)) steps ∙ order-same new old (history past) count boot ∙ ordered
 
 -- as long as cores, boot core and steps stay
 stays : (format : Format) (kept now : Before) → length now.cores ≡ length kept.cores → now.boot ≡ kept.boot → now.steps ≡ kept.steps → kept.section ≤ now.section → SoFar format kept → SoFar format now
@@ -46,7 +52,7 @@ stays format kept now cores boot steps section so_far = record {
   boot = λ core h. let old = so_far.boot core (sym boot ∙ h) in (omega (arith, old.0, cores), omega (arith, old.1, section));
   few = omega (arith, so_far.few, cores);
   early = λ h. steps ∙ so_far.early (sym boot ∙ h);
-  order = λ core h. order_same _ _ core _ _ cores steps (so_far.order core (sym boot ∙ h));
+  order = λ core h. order_same (begun kept core) (begun now core) _ _ cores refl steps (so_far.order core (sym boot ∙ h));
 }
 
 -- a line of a section that is passed is out of order
@@ -96,7 +102,7 @@ boots format kept core none so_far = record {
   boot = λ other h. let same : core ≡ other = cc in (subst (λ (n : ℕ). n < length kept.cores) same there, omega arith);
   few = so_far.few;
   early = λ h. cc;
-  order = λ other h. order_same _ _ other [] _ refl (append-nil kept.steps ∙ so_far.early (no_boot kept.boot refl)) (order_none _ other);
+  order = λ other h. order_same (begun kept other) (begun kept other) [] _ refl refl (append-nil kept.steps ∙ so_far.early (no_boot kept.boot refl)) (order-none (begun kept other));
 }
   where
     wrong : not (nat_lt core (length kept.cores)) ≡ false
@@ -109,10 +115,6 @@ boots format kept core none so_far = record {
     no_boot None h = h
     no_boot (Some other) h = absurd (first_of_section kept.section _ _ (fails (kinds_asked format kept (Boot core)) 1 (false, kind.Order) none (lit< tt)) (so_far.boot other h).1)
 
-not_false : (a : Bool) → not a ≡ false → a ≡ true
-not_false true h = refl
-not_false false h = cc
-
 -- a step
 steps : (format : Format) (kept : Before) (step : StepLine) → kind_after format kept (Step step) ≡ None → SoFar format kept → SoFar format (learned kept (Step step))
 unfolding kind_after learned
@@ -120,7 +122,7 @@ steps format kept step none so_far = record {
   boot = λ core h. let old = so_far.boot core h in (old.0, omega (arith, old.1));
   few = so_far.few;
   early = λ h. absurd (after_boot kept.boot has_boot h);
-  order = λ core h. order-push (length kept.cores) core kept.steps step wrong (secondary core h) (not_false _ turn) final (so_far.order core h);
+  order = λ core h. order-push (begun kept core) kept.steps step (secondary core h (core_of (first_event step)) wrong boot_step) (not-false _ turn) final (so_far.order core h);
 }
   where
     has_boot : is_none kept.boot ≡ false
@@ -131,68 +133,47 @@ steps format kept step none so_far = record {
     after_boot None h none = cc
     after_boot (Some core) h none = cc
 
-    wrong : option_map_or (λ core. not (nat_lt core (length kept.cores))) (core_of step) false ≡ false
+    wrong : option_map_or (λ core. not (nat_lt core (length kept.cores))) (core_of (first_event step)) false ≡ false
     wrong = fails (kinds_asked format kept (Step step)) 6 (false, kind.Order) none (lit< tt)
 
-    boot_step : option_map_or (λ core. option_map_or (λ boot. core == boot) kept.boot false) (core_of step) false ≡ false
+    boot_step : option_map_or (λ core. option_map_or (λ boot. core == boot) kept.boot false) (core_of (first_event step)) false ≡ false
     boot_step = fails (kinds_asked format kept (Step step)) 8 (false, kind.Order) none (lit< tt)
 
-    secondary : (boot : ℕ) → kept.boot ≡ Some boot → option_map_or (λ core. core == boot) (core_of step) false ≡ false
-    secondary boot h = subst (λ (o : Option ℕ). option_map_or (λ core. option_map_or (λ boot. core == boot) o false) (core_of step) false ≡ false) h boot_step
+    secondary : (boot : ℕ) → kept.boot ≡ Some boot → (core : Option ℕ) → option_map_or (λ core. not (nat_lt core (length kept.cores))) core false ≡ false
+        → option_map_or (λ core. option_map_or (λ boot. core == boot) kept.boot false) core false ≡ false → option_map_or (λ core. nat_lt core (length kept.cores) && not (core == boot)) core true ≡ true
+    secondary boot h None within other = refl
+    secondary boot h (Some core) within other =
+        let apart : (core == boot) ≡ false = ap (λ (o : Option ℕ). option_map_or (λ boot. core == boot) o false) (sym h) ∙ other in
+        and_from _ _ (not-false _ within) (ap not apart)
 
-    turn : not (in_turn (option_and_then (λ core. last_step core kept.steps) (core_of step)) step) ≡ false
+    turn : not (is_in_turn (history kept.steps) (first_event step)) ≡ false
     turn = fails (kinds_asked format kept (Step step)) 9 (false, kind.Order) none (lit< tt)
 
-    final : (is_finalise step && (is_final kept.steps || is_in_flight kept.steps)) ≡ false
+    final : is_wrong_finalise (history kept.steps) (first_event step) ≡ false
     final = fails (kinds_asked format kept (Step step)) 10 (false, kind.Order) none (lit< tt)
 
--- one more line without a kind
+-- one more line without a kind: but for cores, the boot core and steps, a line changes nothing here
 pub sound_next : (format : Format) (kept : Before) (line : Line (List ℕ)) → kind_after format kept line ≡ None → SoFar format kept → SoFar format (learned kept line)
 unfolding learned
-sound_next format kept Skipped none so_far = stays format kept (learned kept Skipped) refl refl (append-nil kept.steps) (omega arith) so_far
-sound_next format kept Unknown none so_far = stays format kept (learned kept Unknown) refl refl (append-nil kept.steps) (omega arith) so_far
-sound_next format kept (Malformed form kind) none so_far = stays format kept (learned kept (Malformed form kind)) refl refl (append-nil kept.steps) (omega arith) so_far
-sound_next format kept Header none so_far = stays format kept (learned kept Header) refl refl (append-nil kept.steps) (omega arith) so_far
 sound_next format kept (Core core) none so_far = begins format kept core none so_far
+sound_next format kept (Boot core) none so_far = boots format kept core none so_far
+sound_next format kept (Step step) none so_far = steps format kept step none so_far
 sound_next format kept (Register reg word) none so_far = stays format kept (learned kept (Register reg word)) (length-set kept.cores _ _) refl (append-nil kept.steps) (omega arith) so_far
 sound_next format kept (VectorLengths lengths) none so_far = stays format kept (learned kept (VectorLengths lengths)) (length-set kept.cores _ _) refl (append-nil kept.steps) (omega arith) so_far
-sound_next format kept (Boot core) none so_far = boots format kept core none so_far
-sound_next format kept (CommandLine text) none so_far = stays format kept (learned kept (CommandLine text)) refl refl (append-nil kept.steps) (omega arith) so_far
-sound_next format kept (Step step) none so_far = steps format kept step none so_far
-sound_next format kept (Number number capability) none so_far = stays format kept (learned kept (Number number capability)) refl refl (append-nil kept.steps) (omega arith) so_far
-sound_next format kept (Given number on) none so_far = stays format kept (learned kept (Given number on)) refl refl (append-nil kept.steps) (omega arith) so_far
-sound_next format kept (Conduit conduit) none so_far = stays format kept (learned kept (Conduit conduit)) refl refl (append-nil kept.steps) (omega arith) so_far
-sound_next format kept (Callback offset kind) none so_far = stays format kept (learned kept (Callback offset kind)) refl refl (append-nil kept.steps) (omega arith) so_far
-sound_next format kept (Table layout) none so_far = stays format kept (learned kept (Table layout)) refl refl (append-nil kept.steps) (omega arith) so_far
-sound_next format kept (Image length) none so_far = stays format kept (learned kept (Image length)) refl refl (append-nil kept.steps) (omega arith) so_far
-
--- what two tests say of which neither holds
-completes : (final flight : Bool) → (true && (not final || flight)) ≡ false → (final ≡ true) × (flight ≡ false)
-completes true true h = cc
-completes true false h = (refl, refl)
-completes false flight h = cc
-
-both : (a b : Bool) → a ≡ true → b ≡ false → (a && not b) ≡ true
-both true false h k = refl
-both true true h k = cc
-both false b h k = cc
-
--- steps that were made to the end
-complete : (count : ℕ) (past now : List StepLine) → (true && (not (is_final past) || is_in_flight past)) ≡ false → now ≡ past → is_complete count (history now) ≡ true
-complete count past now h same =
-    let ends = completes (is_final past) (is_in_flight past) h in
-    rw same (both _ _ (final_known past ∙ ends.0) (flight_none count past ends.1))
+sound_next format kept line none so_far = stays format kept (learned kept line) refl refl (append-nil kept.steps) (omega arith) so_far
 
 -- the last line, where the image is not too long
 pub sound_last : (format : Format) (kept : Before) (bytes : ℕ) → format.cores ≤ 512 → bytes ≤ 2 ^ 29 → kind_after format kept (Image bytes) ≡ None → SoFar format kept → IsSound (reading_after (learned kept (Image bytes)))
 unfolding kind_after learned
 sound_last format kept bytes limit short none so_far = record {
-  boot = (by_boot kept.boot refl there).0;
-  cores = omega (arith, so_far.few);
-  fit = command_line_fits (unwrap_or (option_or None kept.command_line) []);
-  plain_ctr = λ index. listed (unwrap_or (option_or None kept.command_line) []) CtrEl0 index ∙ outside (unwrap_or (option_or None kept.command_line) []) CtrEl0 index refl;
-  order = order_same _ _ _ _ _ refl (append-nil kept.steps) (by_boot kept.boot refl there).1;
-  complete = complete _ kept.steps _ (fails (kinds_asked format kept (Image bytes)) 11 (false, kind.Order) none (lit< tt)) (append-nil kept.steps);
+  board = record {
+    within = (by_boot kept.boot refl there).0;
+    few = omega (arith, so_far.few);
+    fit = command_line_fits (unwrap_or (option_or None kept.command_line) []);
+    plain_ctr = λ index within. listed (unwrap_or (option_or None kept.command_line) []) CtrEl0 index ∙ outside (unwrap_or (option_or None kept.command_line) []) CtrEl0 index refl;
+  };
+  order = order_same (begun kept (unwrap_or (option_or None kept.boot) 0)) _ _ _ refl refl (append-nil kept.steps) (by_boot kept.boot refl there).1;
+  complete = ap (λ (lines : List StepLine). is_complete (history lines)) (append-nil kept.steps) ∙ not-false _ (fails (kinds_asked format kept (Image bytes)) 11 (false, kind.Order) none (lit< tt));
   image = short;
   table = by_layout kept.layout (fails (kinds_asked format kept (Image bytes)) 13 (false, kind.Order) none (lit< tt));
 }
@@ -200,7 +181,7 @@ sound_last format kept bytes limit short none so_far = record {
     there : is_none kept.boot ≡ false
     there = boot_there format kept bytes none
 
-    by_boot : (boot : Option ℕ) → kept.boot ≡ boot → is_none boot ≡ false → (unwrap_or (option_or None boot) 0 < length kept.cores) × (in_order (length kept.cores) (unwrap_or (option_or None boot) 0) (history kept.steps) ≡ true)
+    by_boot : (boot : Option ℕ) → kept.boot ≡ boot → is_none boot ≡ false → (unwrap_or (option_or None boot) 0 < length kept.cores) × (in_order (begun kept (unwrap_or (option_or None boot) 0)) (history kept.steps) ≡ true)
     by_boot None known h = cc
     by_boot (Some core) known h = ((so_far.boot core known).0, so_far.order core known)
 

@@ -19,6 +19,8 @@ use Rattle.armcaps_text.specs.declared.kind.TextRefused.{TextRefused}
 use Rattle.armcaps_text.specs.declared.kind.TextRefused.TheVariants as refused
 use Rattle.armcaps_text.specs.declared.line.Line.{Line}
 use Rattle.armcaps_text.proofs.LineByLine.{before-push}
+use Rattle.std.proofs.Math.Bool.{or-true}
+use Rattle.armcaps_logic.proofs.Lists.{drop-map, take-map}
 
 -- what is known of a list that is cut before an item
 record Cut {X : Type 0} (xs : List X) (n : ℕ) (x : X) (more : List X) : Type 0 where
@@ -42,16 +44,6 @@ cut_at {X} (y ∷ ys) (suc n) x more h =
       taken = ap (λ (m : ℕ). take m (y ∷ ys)) next ∙ ap (λ (zs : List X). y ∷ zs) cut.taken;
       left = ap (λ (m : ℕ). drop m (y ∷ ys)) next ∙ cut.left;
     }
-
-drop-map : {X Y : Type 0} (f : X → Y) (n : ℕ) (xs : List X) → drop n (map f xs) ≡ map f (drop n xs)
-drop-map f zero xs = refl
-drop-map f (suc n) [] = refl
-drop-map f (suc n) (x ∷ xs) = drop-map f n xs
-
-take-map : {X Y : Type 0} (f : X → Y) (n : ℕ) (xs : List X) → take n (map f xs) ≡ map f (take n xs)
-take-map f zero xs = refl
-take-map f (suc n) [] = refl
-take-map f (suc n) (x ∷ xs) = ap (λ (ys : List _). f x ∷ ys) (take-map f n xs)
 
 -- the first number that passes
 find_first : (p : ℕ → Bool) (count start steps : ℕ) → steps < count → p (start + steps) ≡ true → ((k : ℕ) → k < steps → p (start + k) ≡ false) → find p (range_with_len start count) ≡ Some (start + steps)
@@ -159,10 +151,6 @@ ends_here format text rest after count kept line walked h ends =
     (λ k lt. let later : 0 + k ≡ k = omega arith in subst (λ (n : ℕ). p n ≡ false) (sym later) (walked.onward k lt))
     ∙ ap (λ (n : ℕ). Some n) same
 
-or_true : (b : Bool) → (b || true) ≡ true
-or_true true = refl
-or_true false = refl
-
 -- it is refused there
 pub refused_next : (unended : TextKind) (header : List ℕ) (format : Format) (text rest after : List ℕ) (count : ℕ) (kept : Before) (line : List ℕ) (kind : TextKind) → Walked format text rest count kept → ended_lines rest ≡ line ∷ ended_lines after → kind_after format kept (line_of format line) ≡ Some kind → outcome_after unended header (ended_lines text) format ≡ Refuses (count + 2) kind
 unfolding outcome_after
@@ -176,7 +164,7 @@ refused_next unended header format text rest after count kept line kind walked h
 pub read : (unended : TextKind) (header : List ℕ) (format : Format) (text rest after : List ℕ) (count : ℕ) (kept now : Before) (line : List ℕ) → Walked format text rest count kept → ended_lines rest ≡ line ∷ ended_lines after → length line + 1 + length after ≡ length rest → kind_after format kept (line_of format line) ≡ None → is_last (line_of format line) ≡ true → now ≡ learned kept (line_of format line) → outcome_after unended header (ended_lines text) format ≡ Reads (reading_after now) (length header + 1 + (length text - length after))
 unfolding outcome_after
 read unended header format text rest after count kept now line walked h sizes kind last learns =
-    let found = ends_here format text rest after count kept line walked h (rw last (or_true (is_some (kind_after format kept (line_of format line))))) in
+    let found = ends_here format text rest after count kept line walked h (rw last (or-true (is_some (kind_after format kept (line_of format line))))) in
     let here = kind_next format text rest after count kept line walked h ∙ kind in
     let said_cut = next_said format text rest after count kept line walked h in
     let text_cut = next_text format text rest after count kept line walked h in

@@ -1,5 +1,6 @@
--- What the tokens after a line's word give, by the form of the line: what they say, or the lowest kind of what is wrong with
--- them. The number of tokens is asked first, then numbers from left to right, then names from left to right.
+-- What the tokens after a line's word give, by the form of the line: what they say, or the lowest kind of what is
+-- wrong with them. The number of tokens is asked first, then numbers from left to right, then names from left to
+-- right.
 use Rattle.std.specs.Prelude.{ℕ, ◌==◌, ◌&&◌, ◌||◌, Bool, true, false, nat_le, if◌then◌else◌, List, length, codes, Option, Some, None, is_none, Result, Ok, Err}
 use Rattle.std.specs.Option.{ok_or}
 use Rattle.std.specs.List.{list_all}
@@ -32,7 +33,8 @@ number_among most token = ok_or (number_up_to most token) kind.Number
 -- an ASCII letter, a digit or `_`
 abbrev pub is_name_byte : ℕ → Bool
 is_name_byte byte =
-    (nat_le 97 byte && nat_le byte 122) || (nat_le 65 byte && nat_le byte 90) || (nat_le 48 byte && nat_le byte 57) || (byte == 95)
+    (nat_le 97 byte && nat_le byte 122) || (nat_le 65 byte && nat_le byte 90) || (nat_le 48 byte && nat_le byte 57)
+    || (byte == 95)
 
 -- 1 to 63 letters, digits and `_`
 abbrev pub is_name : List ℕ → Bool
@@ -42,15 +44,20 @@ is_name name = nat_le 1 (length name) && nat_le (length name) 63 && list_all is_
 abbrev pub is_given_name : List ℕ → Bool
 is_given_name name = is_name name && is_none (capability_named name)
 
+-- whether the word switches on or off
 abbrev pub switch_of : List ℕ → Option Bool
-switch_of token = if bytes_eq token (codes "on") then Some true else (if bytes_eq token (codes "off") then Some false else None)
+switch_of token =
+    if bytes_eq token (codes "on") then Some true
+    else (if bytes_eq token (codes "off") then Some false else None)
 
+-- how the kernel calls the firmware, by its word
 abbrev pub conduit_of : List ℕ → Option Conduit
 conduit_of token =
     if bytes_eq token (codes "hvc") then Some conduit.Hvc
     else (if bytes_eq token (codes "smc") then Some conduit.Smc
     else (if bytes_eq token (codes "none") then Some conduit.None else None))
 
+-- what a callback makes of its site, by its word
 abbrev pub callback_kind_of : List ℕ → Option CallbackKind
 callback_kind_of token =
     if bytes_eq token (codes "nops") then Some callback.Nops
@@ -84,7 +91,8 @@ number_arguments tokens =
 abbrev pub given_arguments : Tokens (List ℕ) → Result (ℕ × Bool) TextKind
 given_arguments tokens =
     with_count 4 tokens (and_then (number_among 32767 tokens.second)
-    (λ number. if is_given_name tokens.third then and_then (ok_or (switch_of tokens.fourth) kind.Name) (λ on. Ok (number, on))
+    (λ number. if is_given_name tokens.third
+    then and_then (ok_or (switch_of tokens.fourth) kind.Name) (λ on. Ok (number, on))
     else Err kind.Name))
 
 -- how the kernel calls the firmware

@@ -1,5 +1,5 @@
--- What the lines before a line come to. Where lines give one thing more than once, the last of them counts; such a text is
--- refused at the second.
+-- What the lines before a line come to. Where lines give one thing more than once, the last of them counts; such a
+-- text is refused at the second.
 use Rattle.std.specs.Prelude.{ℕ, ◌==◌, max, Bool, true, false, if◌then◌else◌, List, [], map, fold, filter_map, drop, reverse, Option, Some, None, unwrap_or}
 use Rattle.std.specs.FinMap.{FinMap, from_entries}
 use Rattle.std.specs.List.{list_any, slice_split, last_or}
@@ -23,50 +23,59 @@ abbrev pub is_core : Line (List ℕ) → Bool
 is_core given = elim given [ line.Core core ↦ true | _ ↦ false ]
 
 -- the register that the line gives a word to
-abbrev pub register_of : Line (List ℕ) → Option SysReg
-register_of given = elim given [ line.Register reg word ↦ Some reg | _ ↦ None ]
+abbrev pub register_given : Line (List ℕ) → Option SysReg
+register_given given = elim given [ line.Register reg word ↦ Some reg | _ ↦ None ]
 
 -- the word that the line gives to the register at this place
-abbrev pub word_of : ℕ → Line (List ℕ) → Option ℕ
-word_of place given = elim given [ line.Register reg word ↦ if place_of reg == place then Some word else None | _ ↦ None ]
+abbrev pub word_given : ℕ → Line (List ℕ) → Option ℕ
+word_given place given = elim given [
+  | line.Register reg word ↦ if place_of reg == place then Some word else None
+  | _ ↦ None
+]
 
 -- the vector lengths that the line gives
-abbrev pub lengths_of : Line (List ℕ) → Option ℕ
-lengths_of given = elim given [ line.VectorLengths lengths ↦ Some lengths | _ ↦ None ]
+abbrev pub lengths_given : Line (List ℕ) → Option ℕ
+lengths_given given = elim given [ line.VectorLengths lengths ↦ Some lengths | _ ↦ None ]
 
 -- the line gives vector lengths
 abbrev pub is_lengths : Line (List ℕ) → Bool
 is_lengths given = elim given [ line.VectorLengths lengths ↦ true | _ ↦ false ]
 
-abbrev pub boot_of : Line (List ℕ) → Option ℕ
-boot_of given = elim given [ line.Boot core ↦ Some core | _ ↦ None ]
+-- the boot core that the line gives
+abbrev pub boot_given : Line (List ℕ) → Option ℕ
+boot_given given = elim given [ line.Boot core ↦ Some core | _ ↦ None ]
 
-abbrev pub command_line_of : Line (List ℕ) → Option (List ℕ)
-command_line_of given = elim given [ line.CommandLine text ↦ Some text | _ ↦ None ]
+-- the command line that the line gives
+abbrev pub command_line_given : Line (List ℕ) → Option (List ℕ)
+command_line_given given = elim given [ line.CommandLine text ↦ Some text | _ ↦ None ]
 
-abbrev pub step_of : Line (List ℕ) → Option StepLine
-step_of given = elim given [ line.Step step ↦ Some step | _ ↦ None ]
+-- the steps that the line gives
+abbrev pub step_given : Line (List ℕ) → Option StepLine
+step_given given = elim given [ line.Step step ↦ Some step | _ ↦ None ]
 
 -- the number that the line names, and what it stands for
-abbrev pub name_of : Line (List ℕ) → Option (ℕ × Named)
-name_of given = elim given [
+abbrev pub name_given : Line (List ℕ) → Option (ℕ × Named)
+name_given given = elim given [
   | line.Number number capability ↦ Some (number, named.Cap capability)
   | line.Given number on ↦ Some (number, named.Given on)
   | _ ↦ None
 ]
 
 -- the callback that the line names, by its offset
-abbrev pub callback_of : Line (List ℕ) → Option (ℕ × CallbackKind)
-callback_of given = elim given [ line.Callback offset kind ↦ Some (offset, kind) | _ ↦ None ]
+abbrev pub callback_given : Line (List ℕ) → Option (ℕ × CallbackKind)
+callback_given given = elim given [ line.Callback offset kind ↦ Some (offset, kind) | _ ↦ None ]
 
-abbrev pub conduit_of : Line (List ℕ) → Option Conduit
-conduit_of given = elim given [ line.Conduit conduit ↦ Some conduit | _ ↦ None ]
+-- the conduit that the line gives
+abbrev pub conduit_given : Line (List ℕ) → Option Conduit
+conduit_given given = elim given [ line.Conduit conduit ↦ Some conduit | _ ↦ None ]
 
-abbrev pub layout_of : Line (List ℕ) → Option Layout
-layout_of given = elim given [ line.Table layout ↦ Some layout | _ ↦ None ]
+-- the place of the table that the line gives
+abbrev pub layout_given : Line (List ℕ) → Option Layout
+layout_given given = elim given [ line.Table layout ↦ Some layout | _ ↦ None ]
 
-abbrev pub image_of : Line (List ℕ) → Option ℕ
-image_of given = elim given [ line.Image length ↦ Some length | _ ↦ None ]
+-- the length of the image that the line gives
+abbrev pub image_given : Line (List ℕ) → Option ℕ
+image_given given = elim given [ line.Image length ↦ Some length | _ ↦ None ]
 
 -- what the last of the lines gives that gives such a thing
 abbrev pub last_given : {A : Type 0} → (Line (List ℕ) → Option A) → List (Line (List ℕ)) → Option A
@@ -82,22 +91,22 @@ lines_of_last lines = unwrap_or (last_or None (lines_by_core lines)) []
 
 -- the word of the register at this place among the lines of a core; 0 where no line gives it
 abbrev pub register_word : List (Line (List ℕ)) → ℕ → ℕ
-register_word lines place = unwrap_or (last_given (word_of place) lines) 0
+register_word lines place = unwrap_or (last_given (word_given place) lines) 0
 
 -- what the lines of a core tell of it
 abbrev pub core_told : List (Line (List ℕ)) → Core
 core_told lines = record {
   words = map (λ reg. register_word lines (place_of reg)) registers;
-  lengths = unwrap_or (last_given lengths_of lines) 0;
+  lengths = unwrap_or (last_given lengths_given lines) 0;
 }
 
 -- the greatest section that a line has stood in
 abbrev pub greatest_section : List (Line (List ℕ)) → ℕ
 greatest_section lines = fold (λ section one. max section (section_of one)) 0 lines
 
--- what lines come to: the cores begun, the registers and whether vector lengths were given to the core begun last, the boot
--- core, the command line, the steps, the numbers and callbacks named, the conduit, the table, the image's length, and the
--- greatest section
+-- what is known of a text by its first lines: the cores begun, the registers and whether vector lengths were given to
+-- the core begun last, the boot core, the command line, the steps, the numbers and callbacks named, the conduit, the
+-- table, the image's length, and the greatest section
 pub record Before : Type 0 where
   pub cores : List Core
   pub named : List SysReg
@@ -112,18 +121,19 @@ pub record Before : Type 0 where
   pub image : Option ℕ
   pub section : ℕ
 
+-- what lines come to
 unfoldable pub before : List (Line (List ℕ)) → Before
 before lines = record {
   cores = map core_told (lines_by_core lines);
-  named = filter_map register_of (lines_of_last lines);
+  named = filter_map register_given (lines_of_last lines);
   measured = list_any is_lengths (lines_of_last lines);
-  boot = last_given boot_of lines;
-  command_line = last_given command_line_of lines;
-  steps = filter_map step_of lines;
-  numbers = from_entries (reverse (filter_map name_of lines));
-  callbacks = from_entries (reverse (filter_map callback_of lines));
-  conduit = last_given conduit_of lines;
-  layout = last_given layout_of lines;
-  image = last_given image_of lines;
+  boot = last_given boot_given lines;
+  command_line = last_given command_line_given lines;
+  steps = filter_map step_given lines;
+  numbers = from_entries (reverse (filter_map name_given lines));
+  callbacks = from_entries (reverse (filter_map callback_given lines));
+  conduit = last_given conduit_given lines;
+  layout = last_given layout_given lines;
+  image = last_given image_given lines;
   section = greatest_section lines;
 }

@@ -6,9 +6,8 @@ use Rattle.std.specs.Option.{option_map_or}
 use Rattle.armcaps_alt.specs.Names.{NameLists}
 use Rattle.armcaps_alt.specs.declared.smccc_conduit.Conduit.TheVariants as conduit
 use Rattle.armcaps_alt.specs.declared.table_place.Layout.{Layout}
+use Rattle.armcaps_board.specs.Board.{Board}
 use Rattle.armcaps_cmdline.specs.Overrides.{command_line_overrides}
-use Rattle.armcaps_tables.specs.Core.{Core}
-use Rattle.armcaps_tables.specs.Overriding.{FieldOverrides}
 use Rattle.armcaps_text.specs.Before.{Before, before}
 use Rattle.armcaps_text.specs.Formats.{format_named}
 use Rattle.armcaps_text.specs.Kinds.{kind_after}
@@ -23,31 +22,41 @@ use Rattle.armcaps_text.specs.declared.line.Line.{Line}
 use Rattle.armcaps_text.specs.declared.machine.Machine.{Machine}
 use Rattle.armcaps_board.specs.declared.step_line.StepLine.{StepLine}
 
--- what a text says of a machine: what each core tells of itself, the boot core, the overrides of the command line, the steps,
--- the named numbers and callbacks and the conduit, the place of the table, and the length of the image
+-- what a text says of a machine: what is brought up, by which steps, the named numbers and callbacks and the conduit,
+-- the place of the table, and the length of the image
 pub record Reading : Type 0 where
-  pub cores : List Core
-  pub boot : ℕ
-  pub overrides : FieldOverrides
+  pub board : Board
   pub steps : List StepLine
   pub names : NameLists
   pub layout : Layout
   pub image : ℕ
 
--- what becomes of an input: it reads, with the number of bytes up to the end of its last line; or a line of it is refused
+-- what becomes of an input: it reads, with the number of bytes up to the end of its last line; or a line of it is
+-- refused
 pub data Outcome : Type 0 where
   Reads : Reading → ℕ → Outcome
   Refuses : ℕ → TextKind → Outcome
 
--- what lines say that come to this. Without a `cmdline` line the command line is empty, without a `conduit` line there is no
--- conduit, without a `table` line the table has no entry; the boot core and the image's length are those of their lines
-abbrev pub reading_after : Before → Reading
-reading_after before = record {
+-- what is brought up by lines that come to this: without a `cmdline` line the command line is empty; the boot core is
+-- that of its line
+abbrev pub board_after : Before → Board
+board_after before = record {
   cores = before.cores;
   boot = unwrap_or before.boot 0;
   overrides = command_line_overrides (unwrap_or before.command_line []);
+}
+
+-- what lines say that come to this. Without a `conduit` line there is no conduit, without a `table` line the table
+-- has no entry; the image's length is that of its line
+abbrev pub reading_after : Before → Reading
+reading_after before = record {
+  board = board_after before;
   steps = before.steps;
-  names = record { numbers = entries before.numbers; callbacks = entries before.callbacks; conduit = unwrap_or before.conduit conduit.None };
+  names = record {
+    numbers = entries before.numbers;
+    callbacks = entries before.callbacks;
+    conduit = unwrap_or before.conduit conduit.None;
+  };
   layout = unwrap_or before.layout (record { table = 0; count = 0 });
   image = unwrap_or before.image 0;
 }
@@ -73,8 +82,8 @@ abbrev pub refused_or : ℕ → Option TextKind → Outcome → Outcome
 refused_or number None reads = reads
 refused_or number (Some kind) reads = Refuses number kind
 
--- what becomes of a text after its header where it ends at this line after line 1, if it ends at one: the line after those that
--- have ended is refused where it does not
+-- what becomes of a text after its header where it ends at this line after line 1, if it ends at one: the line after
+-- those that have ended is refused where it does not
 abbrev pub outcome_at : TextKind → List ℕ → List (List ℕ) → Format → Option ℕ → Outcome
 outcome_at unended header texts format None = Refuses (length texts + 2) unended
 outcome_at unended header texts format (Some place) =
@@ -85,12 +94,14 @@ outcome_at unended header texts format (Some place) =
 -- what becomes of a text whose first line is this header of its format: it ends at the first line where it can
 unfoldable pub outcome_after : TextKind → List ℕ → List (List ℕ) → Format → Outcome
 outcome_after unended header texts format =
-    outcome_at unended header texts format (find (ends_at format (map (line_of format) texts)) (range_with_len 0 (length texts)))
+    outcome_at unended header texts format
+    (find (ends_at format (map (line_of format) texts)) (range_with_len 0 (length texts)))
 
 -- what becomes of the lines of an input; line 1 has to name a format
 abbrev pub outcome_of_lines : TextKind → List (List ℕ) → Outcome
 outcome_of_lines unended [] = Refuses 1 unended
-outcome_of_lines unended (header ∷ texts) = option_map_or (outcome_after unended header texts) (format_named header) (Refuses 1 kind.Header)
+outcome_of_lines unended (header ∷ texts) =
+    option_map_or (outcome_after unended header texts) (format_named header) (Refuses 1 kind.Header)
 
 -- what becomes of an input
 unfoldable pub outcome : List ℕ → Outcome
@@ -99,9 +110,7 @@ outcome input = outcome_of_lines (unended_kind input) (lines_of input)
 -- what a machine is, as a text says it
 abbrev pub reading_of : Machine → Reading
 reading_of machine = record {
-  cores = machine.cores.items;
-  boot = machine.boot;
-  overrides = machine.overrides;
+  board = machine.board;
   steps = machine.steps.items;
   names = machine.names;
   layout = machine.layout;
@@ -113,7 +122,8 @@ abbrev pub IsRefusal : Outcome → TextRefused → Type 0
 IsRefusal outcome (refused.Line line kind) = outcome ≡ Refuses line kind
 IsRefusal outcome refused.Memory = Unit {0}
 
--- the refusal is that of a line after this many others after line 1, by the kind that holds there, unless memory ran out
+-- the refusal is that of a line after this many others after line 1, by the kind that holds there, unless memory ran
+-- out
 abbrev pub IsRefusalAt : Option TextKind → ℕ → TextRefused → Type 0
 IsRefusalAt found lines (refused.Line line kind) = (found ≡ Some kind) × (line ≡ lines + 2)
 IsRefusalAt found lines refused.Memory = Unit {0}

@@ -1,13 +1,14 @@
--- What can be wrong with a line, by what the lines before it come to. Each kind is asked only where no lower kind holds.
--- Kind 1 is that of line 1, and 2 and 3 are those of a line that has not ended: they stand in Document.
-use Rattle.std.specs.Prelude.{ℕ, ◌+◌, ◌*◌, ◌==◌, ◌&&◌, ◌||◌, not, Bool, true, false, nat_lt, nat_le, is_none, if◌then◌else◌, List, [], ◌∷◌, find, length, Option, None, option_map, option_and_then}
+-- What can be wrong with a line, by what the lines before it come to. Each kind is asked only where no lower kind
+-- holds. Kind 1 is that of line 1, and 2 and 3 are those of a line that has not ended: they stand in Document.
+use Rattle.std.specs.Prelude.{ℕ, ◌+◌, ◌*◌, ◌==◌, ◌&&◌, ◌||◌, not, Bool, true, false, nat_lt, nat_le, is_none, if◌then◌else◌, List, [], ◌∷◌, find, length, Option, None, option_map}
 use Rattle.std.specs.FinMap.{contains_key}
 use Rattle.std.specs.List.{list_any}
 use Rattle.std.specs.Option.{option_map_or}
+use Rattle.armcaps_board.specs.Order.{is_complete, is_in_turn, is_wrong_finalise}
+use Rattle.armcaps_board.specs.Steps.{core_of, first_event, history}
 use Rattle.armcaps_enc.specs.Registers.{place_of}
 use Rattle.armcaps_text.specs.Before.{Before}
 use Rattle.armcaps_text.specs.Meaning.{section_of}
-use Rattle.armcaps_text.specs.Steps.{core_of, last_step, in_turn, is_in_flight, is_finalise, is_final}
 use Rattle.armcaps_text.specs.declared.form.Form.{Form}
 use Rattle.armcaps_text.specs.declared.form.Form.TheVariants as form
 use Rattle.armcaps_text.specs.declared.format.Format.{Format}
@@ -36,7 +37,8 @@ has_one_line section = list_any (λ one. one == section) (2 ∷ 3 ∷ 6 ∷ 8 �
 -- section has stood
 abbrev pub is_in_passed_section : Before → Line (List ℕ) → Bool
 is_in_passed_section before given =
-    nat_lt (section_of given) before.section || (has_one_line (section_of given) && (section_of given == before.section))
+    nat_lt (section_of given) before.section
+    || (has_one_line (section_of given) && (section_of given == before.section))
 
 -- the form tells of the core begun last
 abbrev pub is_form_of_core : Form → Bool
@@ -66,15 +68,24 @@ is_out_of_order before given =
 
 -- 6: the number of tokens is not the form's
 abbrev pub has_wrong_count : Line (List ℕ) → Bool
-has_wrong_count given = elim given [ line.Malformed form wrong ↦ elim wrong [ kind.Tokens ↦ true | _ ↦ false ] | _ ↦ false ]
+has_wrong_count given = elim given [
+  | line.Malformed form wrong ↦ elim wrong [ kind.Tokens ↦ true | _ ↦ false ]
+  | _ ↦ false
+]
 
 -- 7: a token is not a number in its range
 abbrev pub has_wrong_number : Line (List ℕ) → Bool
-has_wrong_number given = elim given [ line.Malformed form wrong ↦ elim wrong [ kind.Number ↦ true | _ ↦ false ] | _ ↦ false ]
+has_wrong_number given = elim given [
+  | line.Malformed form wrong ↦ elim wrong [ kind.Number ↦ true | _ ↦ false ]
+  | _ ↦ false
+]
 
 -- 8: a token is no name of those that the form takes
 abbrev pub has_wrong_name : Line (List ℕ) → Bool
-has_wrong_name given = elim given [ line.Malformed form wrong ↦ elim wrong [ kind.Name ↦ true | _ ↦ false ] | _ ↦ false ]
+has_wrong_name given = elim given [
+  | line.Malformed form wrong ↦ elim wrong [ kind.Name ↦ true | _ ↦ false ]
+  | _ ↦ false
+]
 
 -- 9: a register twice in a core, its vector lengths twice, a number or a callback's offset twice
 abbrev pub is_twice : Before → Line (List ℕ) → Bool
@@ -92,38 +103,45 @@ abbrev pub has_wrong_core_number : Before → Line (List ℕ) → Bool
 has_wrong_core_number before given = elim given [
   | line.Core core ↦ not (core == length before.cores)
   | line.Boot core ↦ not (nat_lt core (length before.cores))
-  | line.Step step ↦ option_map_or (λ core. not (nat_lt core (length before.cores))) (core_of step) false
+  | line.Step step ↦ option_map_or (λ core. not (nat_lt core (length before.cores))) (core_of (first_event step)) false
   | _ ↦ false
 ]
 
 -- 11: one core more than the format allows
 abbrev pub is_one_core_too_many : Format → Before → Line (List ℕ) → Bool
-is_one_core_too_many format before given = elim given [ line.Core core ↦ nat_le format.cores (length before.cores) | _ ↦ false ]
+is_one_core_too_many format before given = elim given [
+  | line.Core core ↦ nat_le format.cores (length before.cores)
+  | _ ↦ false
+]
+
+-- the number is the boot core's
+abbrev pub is_boot_core : Before → ℕ → Bool
+is_boot_core before core = option_map_or (λ boot. core == boot) before.boot false
 
 -- 12: a step of the boot core
 abbrev pub is_boot_step : Before → Line (List ℕ) → Bool
 is_boot_step before given = elim given [
-  | line.Step step ↦ option_map_or (λ core. option_map_or (λ boot. core == boot) before.boot false) (core_of step) false
+  | line.Step step ↦ option_map_or (is_boot_core before) (core_of (first_event step)) false
   | _ ↦ false
 ]
 
--- 13: a step that its core cannot make after its last one
+-- 13: a step that its core cannot make after its last one; of `online`, the check
 abbrev pub is_out_of_turn : Before → Line (List ℕ) → Bool
 is_out_of_turn before given = elim given [
-  | line.Step step ↦ not (in_turn (option_and_then (λ core. last_step core before.steps) (core_of step)) step)
+  | line.Step step ↦ not (is_in_turn (history before.steps) (first_event step))
   | _ ↦ false
 ]
 
 -- 14: a second `finalise`, or one while a core is on its way up
-abbrev pub is_wrong_finalise : Before → Line (List ℕ) → Bool
-is_wrong_finalise before given = elim given [
-  | line.Step step ↦ is_finalise step && (is_final before.steps || is_in_flight before.steps)
+abbrev pub is_untimely : Before → Line (List ℕ) → Bool
+is_untimely before given = elim given [
+  | line.Step step ↦ is_wrong_finalise (history before.steps) (first_event step)
   | _ ↦ false
 ]
 
 -- 15: a section above 4 without `finalise`, or while a core is on its way up
 abbrev pub is_incomplete : Before → Line (List ℕ) → Bool
-is_incomplete before given = nat_lt 4 (section_of given) && (not (is_final before.steps) || is_in_flight before.steps)
+is_incomplete before given = nat_lt 4 (section_of given) && not (is_complete (history before.steps))
 
 -- 16: a command line of more than 2048 bytes
 abbrev pub is_command_line_too_long : Line (List ℕ) → Bool
@@ -149,7 +167,7 @@ kinds_asked format before given =
     ∷ (is_one_core_too_many format before given, kind.TooMany)
     ∷ (is_boot_step before given, kind.BootStep)
     ∷ (is_out_of_turn before given, kind.Turn)
-    ∷ (is_wrong_finalise before given, kind.Finalise)
+    ∷ (is_untimely before given, kind.Finalise)
     ∷ (is_incomplete before given, kind.Incomplete)
     ∷ (is_command_line_too_long given, kind.CmdlineTooLong)
     ∷ (is_table_outside before given, kind.TableOutside)

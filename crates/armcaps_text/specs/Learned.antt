@@ -6,7 +6,7 @@ use Rattle.std.specs.Ordering.{nat_cmp}
 use Rattle.armcaps_enc.specs.declared.register.SysReg.{SysReg}
 use Rattle.armcaps_enc.specs.Registers.{place_of}
 use Rattle.armcaps_tables.specs.Core.{Core}
-use Rattle.armcaps_text.specs.Before.{Before, boot_of, command_line_of, step_of, name_of, callback_of, conduit_of, layout_of, image_of}
+use Rattle.armcaps_text.specs.Before.{Before, boot_given, command_line_given, step_given, name_given, callback_given, conduit_given, layout_given, image_given}
 use Rattle.armcaps_text.specs.Meaning.{section_of}
 use Rattle.armcaps_text.specs.declared.line.Line.{Line}
 use Rattle.armcaps_text.specs.declared.line.Line.TheVariants as line
@@ -27,6 +27,7 @@ with_word reg word core = record core { words = slice_set core.words (place_of r
 abbrev pub with_lengths : ℕ → Core → Core
 with_lengths lengths core = record core { lengths = lengths }
 
+-- the cores begun, after one more line
 abbrev pub cores_after : List Core → Line (List ℕ) → List Core
 cores_after cores given = elim given [
   | line.Core core ↦ cores ++ zero_core ∷ []
@@ -43,6 +44,7 @@ named_after cores named given = elim given [
   | _ ↦ named
 ]
 
+-- whether the core begun last has a line of vector lengths; before the first core there is none
 abbrev pub measured_after : List Core → Bool → Line (List ℕ) → Bool
 measured_after cores measured given = elim given [
   | line.Core core ↦ false
@@ -55,18 +57,19 @@ abbrev pub put_into : {V : Type 0} → FinMap nat_cmp V → Option (ℕ × V) �
 put_into entries None = entries
 put_into entries (Some entry) = insert entries entry.0 entry.1
 
+-- what one more line makes of it all
 unfoldable pub learned : Before → Line (List ℕ) → Before
 learned before given = record {
   cores = cores_after before.cores given;
   named = named_after before.cores before.named given;
   measured = measured_after before.cores before.measured given;
-  boot = option_or (boot_of given) before.boot;
-  command_line = option_or (command_line_of given) before.command_line;
-  steps = before.steps ++ option_to_list (step_of given);
-  numbers = put_into before.numbers (name_of given);
-  callbacks = put_into before.callbacks (callback_of given);
-  conduit = option_or (conduit_of given) before.conduit;
-  layout = option_or (layout_of given) before.layout;
-  image = option_or (image_of given) before.image;
+  boot = option_or (boot_given given) before.boot;
+  command_line = option_or (command_line_given given) before.command_line;
+  steps = before.steps ++ option_to_list (step_given given);
+  numbers = put_into before.numbers (name_given given);
+  callbacks = put_into before.callbacks (callback_given given);
+  conduit = option_or (conduit_given given) before.conduit;
+  layout = option_or (layout_given given) before.layout;
+  image = option_or (image_given given) before.image;
   section = max before.section (section_of given);
 }

@@ -5,7 +5,6 @@ pub mod Formats
 pub mod Forms
 pub mod Arguments
 pub mod Meaning
-pub mod Steps
 pub mod Kept
 pub mod Before
 pub mod Learned
@@ -15,4 +14,3 @@ pub mod Sound
 pub mod Reader
 pub mod Refusal
 pub mod Generator
-pub mod LargeImage

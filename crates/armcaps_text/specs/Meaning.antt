@@ -34,6 +34,7 @@ plain (Callback offset kind) = Callback offset kind
 plain (Table layout) = Table layout
 plain (Image length) = Image length
 
+-- the same of a line that can be wrong
 abbrev pub plain_meaning : Result (Line (Bor (List ℕ))) TextKind → Result (Line (List ℕ)) TextKind
 plain_meaning (Ok line) = Ok (plain line)
 plain_meaning (Err kind) = Err kind
@@ -47,7 +48,8 @@ abbrev pub meaning_of : Format → Form → Tokens (List ℕ) → List ℕ → R
 meaning_of format form.Header tokens line = Ok Header
 meaning_of format form.Core tokens line = and_then (core_argument tokens) (λ core. Ok (Core core))
 meaning_of format (form.Register reg) tokens line = and_then (word_argument tokens) (λ word. Ok (Register reg word))
-meaning_of format form.VectorLengths tokens line = and_then (lengths_argument tokens) (λ lengths. Ok (VectorLengths lengths))
+meaning_of format form.VectorLengths tokens line =
+    and_then (lengths_argument tokens) (λ lengths. Ok (VectorLengths lengths))
 meaning_of format form.Boot tokens line = and_then (core_argument tokens) (λ core. Ok (Boot core))
 meaning_of format form.CommandLine tokens line = Ok (CommandLine (text_after_word line))
 meaning_of format form.Check tokens line = step_by Check tokens
@@ -59,7 +61,8 @@ meaning_of format form.Finalise tokens line = and_then (has_count 1 tokens) (λ 
 meaning_of format form.Number tokens line = and_then (number_arguments tokens) (λ named. Ok (Number named.0 named.1))
 meaning_of format form.Given tokens line = and_then (given_arguments tokens) (λ given. Ok (Given given.0 given.1))
 meaning_of format form.Conduit tokens line = and_then (conduit_argument tokens) (λ conduit. Ok (Conduit conduit))
-meaning_of format form.Callback tokens line = and_then (callback_arguments format tokens) (λ callback. Ok (Callback callback.0 callback.1))
+meaning_of format form.Callback tokens line =
+    and_then (callback_arguments format tokens) (λ callback. Ok (Callback callback.0 callback.1))
 meaning_of format form.Table tokens line = and_then (table_arguments format tokens) (λ layout. Ok (Table layout))
 meaning_of format form.End tokens line = and_then (has_count 1 tokens) (λ _. Ok (Image 0))
 meaning_of format form.Image tokens line = and_then (image_argument format tokens) (λ length. Ok (Image length))

@@ -11,8 +11,9 @@ use Rattle.armcaps_text.specs.declared.reader.Reader.{Reader}
 abbrev pub map_of : {V : Type 0} → BTreeMap ℕ V → FinMap nat_cmp V
 map_of map = from_entries map.entries
 
-abbrev pub kept : Reader → Before
-kept reader = record {
+-- what the lines that the reader has taken come to
+abbrev pub so_far : Reader → Before
+so_far reader = record {
   cores = reader.cores.items;
   named = reader.named.items;
   measured = reader.measured;

@@ -48,5 +48,6 @@ kind_word TableOutside = codes "table-outside"
 
 -- the text of a refusal, as `line 7: kind 13 turn`
 unfoldable pub refusal_text : TextRefused → List ℕ
-refusal_text (Line line kind) = codes "line " ++ decimal line ++ codes ": kind " ++ decimal (kind_number kind) ++ codes " " ++ kind_word kind
+refusal_text (Line line kind) =
+    codes "line " ++ decimal line ++ codes ": kind " ++ decimal (kind_number kind) ++ codes " " ++ kind_word kind
 refusal_text Memory = codes "want of memory"

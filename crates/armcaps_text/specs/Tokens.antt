@@ -37,6 +37,7 @@ plain_tokens tokens = record {
 abbrev pub is_passed_over : Tokens (List ℕ) → Bool
 is_passed_over tokens = (length tokens.word == 0) || (slice_index tokens.word 0 == 35)
 
+-- the byte is a space
 abbrev pub is_space : ℕ → Bool
 is_space byte = byte == 32
 

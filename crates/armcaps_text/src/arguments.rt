@@ -74,14 +74,11 @@ fn switch_of(token: &[u8]) -> Option<bool>
 fn conduit_of(token: &[u8]) -> Option<Conduit>
     ensures { result ≡ conduit_of token.now }
 {
-    if token == b"hvc".as_slice() {
-        Some(Conduit::Hvc)
-    } else if token == b"smc".as_slice() {
-        Some(Conduit::Smc)
-    } else if token == b"none".as_slice() {
-        Some(Conduit::None)
-    } else {
-        None
+    match token {
+        b"hvc" => Some(Conduit::Hvc),
+        b"smc" => Some(Conduit::Smc),
+        b"none" => Some(Conduit::None),
+        _ => None,
     }
 }
 

@@ -60,8 +60,8 @@ impl Format {
         }
     }
 
-    /// The format by which an input is judged: the one that its line 1 names, if that ends among the first 1,048,576 bytes,
-    /// or else format 1.
+    /// The format by which an input is judged: the one that its line 1 names, if that ends among the first 1,048,576
+    /// bytes, or else format 1.
     pub fn of(input: &[u8]) -> Self
         ensures { result ≡ format_of input.now }
     {

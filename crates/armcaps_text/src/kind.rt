@@ -2,8 +2,8 @@
 use std::error::Error;
 use std::fmt;
 
-/// What can be wrong with a line of a machine text, each kind with its number. Where several kinds hold at a line, the lowest
-/// is reported.
+/// What can be wrong with a line of a machine text, each kind with its number. Where several kinds hold at a line,
+/// the lowest is reported.
 #[derive(Clone, Copy, Debug, PartialEq, Eq)]
 pub enum TextKind {
     /// Line 1 is neither `armcaps 1` nor `armcaps 2`.
@@ -14,8 +14,8 @@ pub enum TextKind {
     TextTooLong,
     /// The first token of the line is no word of the format.
     UnknownLine,
-    /// A second header; a section lower than an earlier line's; a second `boot`, `cmdline`, `conduit` or `table` line; a
-    /// `boot` line or a register's before any `core` line; a line of a later section before the `boot` line.
+    /// A second header; a section lower than an earlier line's; a second `boot`, `cmdline`, `conduit` or `table`
+    /// line; a `boot` line or a register's before any `core` line; a line of a later section before the `boot` line.
     Order,
     /// The line has too few or too many tokens.
     Tokens,

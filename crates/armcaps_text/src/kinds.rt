@@ -1,20 +1,17 @@
 // What is wrong with a line, by what the lines before it come to.
-ghost use Rattle.std.specs.Prelude.{◌≡◌, ◌==◌, length, nat_lt, option_and_then};
+ghost use Rattle.std.specs.Prelude.{◌≡◌, ◌==◌, length, nat_lt};
 ghost use Rattle.std.specs.FinMap.{contains_key};
 ghost use Rattle.std.specs.List.{list_any};
 ghost use Rattle.armcaps_enc.specs.Registers.{place_of};
-ghost use Rattle.armcaps_text.specs.Kinds.{is_skipped, is_unknown, is_second_header, has_one_line, is_in_passed_section, is_form_of_core, tells_of_core, lacks_core, lacks_boot, is_out_of_order, has_wrong_count, has_wrong_number, has_wrong_name, is_twice, has_wrong_core_number, is_one_core_too_many, is_boot_step, is_out_of_turn, is_wrong_finalise, is_incomplete, is_command_line_too_long, is_table_outside, kind_after};
+ghost use Rattle.armcaps_text.specs.Kinds.{is_skipped, is_unknown, is_second_header, has_one_line, is_in_passed_section, is_form_of_core, tells_of_core, lacks_core, lacks_boot, is_out_of_order, has_wrong_count, has_wrong_number, has_wrong_name, is_twice, has_wrong_core_number, is_one_core_too_many, is_boot_step, is_out_of_turn, is_untimely, is_incomplete, is_command_line_too_long, is_table_outside, kind_after};
 ghost use Rattle.armcaps_text.specs.Meaning.{plain};
-ghost use Rattle.armcaps_text.specs.Reader.{kept};
-ghost use Rattle.armcaps_text.specs.Steps.{core_of, last_step};
+ghost use Rattle.armcaps_text.specs.Reader.{so_far};
 
 use crate::form::Form;
 use crate::format::Format;
 use crate::kind::TextKind;
 use crate::line::Line;
 use crate::reader::Reader;
-use crate::steps::{core_of, is_in_turn};
-use armcaps_boot::StepLine;
 use armcaps_enc::SysReg;
 
 // A command line has at most this many bytes.
@@ -96,53 +93,53 @@ impl Line<&[u8]> {
 impl Reader<'_> {
     // Whether the core begun last has a line for the register.
     fn has_named(&self, reg: SysReg) -> bool
-        ensures { result ≡ list_any (λ other. place_of other == place_of reg) (kept self.now).named }
+        ensures { result ≡ list_any (λ other. place_of other == place_of reg) (so_far self.now).named }
     {
         self.named.iter().any(|other| other.place() == reg.place())
     }
 
     #[tactic(auto, using(crate::proofs::Maps::looked_up))]
     fn has_number(&self, number: u16) -> bool
-        ensures { result ≡ contains_key (kept self.now).numbers number }
+        ensures { result ≡ contains_key (so_far self.now).numbers number }
     {
         self.numbers.contains_key(&number)
     }
 
     #[tactic(auto, using(crate::proofs::Maps::looked_up))]
     fn has_callback(&self, offset: u32) -> bool
-        ensures { result ≡ contains_key (kept self.now).callbacks offset }
+        ensures { result ≡ contains_key (so_far self.now).callbacks offset }
     {
         self.callbacks.contains_key(&offset)
     }
 
     // Whether the core has begun.
     fn has_core(&self, core: u32) -> bool
-        ensures { result ≡ nat_lt core (length (kept self.now).cores) }
+        ensures { result ≡ nat_lt core (length (so_far self.now).cores) }
     {
         (core as usize) < self.cores.len()
     }
 
     fn is_in_passed_section(&self, line: &Line<&[u8]>) -> bool
-        ensures { result ≡ is_in_passed_section (kept self.now) (plain line.now) }
+        ensures { result ≡ is_in_passed_section (so_far self.now) (plain line.now) }
     {
         let section = line.section();
         section < self.section || (has_one_line(section) && section == self.section)
     }
 
     fn lacks_core(&self, line: &Line<&[u8]>) -> bool
-        ensures { result ≡ lacks_core (kept self.now) (plain line.now) }
+        ensures { result ≡ lacks_core (so_far self.now) (plain line.now) }
     {
         self.cores.is_empty() && (line.tells_of_core() || line.section() == 2)
     }
 
     fn lacks_boot(&self, line: &Line<&[u8]>) -> bool
-        ensures { result ≡ lacks_boot (kept self.now) (plain line.now) }
+        ensures { result ≡ lacks_boot (so_far self.now) (plain line.now) }
     {
         line.section() > 2 && self.boot.is_none()
     }
 
     fn is_out_of_order(&self, line: &Line<&[u8]>) -> bool
-        ensures { result ≡ is_out_of_order (kept self.now) (plain line.now) }
+        ensures { result ≡ is_out_of_order (so_far self.now) (plain line.now) }
     {
         line.is_second_header()
             || self.is_in_passed_section(line)
@@ -151,7 +148,7 @@ impl Reader<'_> {
     }
 
     fn is_twice(&self, line: &Line<&[u8]>) -> bool
-        ensures { result ≡ is_twice (kept self.now) (plain line.now) }
+        ensures { result ≡ is_twice (so_far self.now) (plain line.now) }
     {
         match line {
             Line::Register(reg, _) => self.has_named(*reg),
@@ -163,12 +160,12 @@ impl Reader<'_> {
     }
 
     fn has_wrong_core_number(&self, line: &Line<&[u8]>) -> bool
-        ensures { result ≡ has_wrong_core_number (kept self.now) (plain line.now) }
+        ensures { result ≡ has_wrong_core_number (so_far self.now) (plain line.now) }
     {
         match line {
             Line::Core(core) => *core as usize != self.cores.len(),
             Line::Boot(core) => !self.has_core(*core),
-            Line::Step(step) => match core_of(*step) {
+            Line::Step(step) => match step.first_event().core() {
                 Some(core) => !self.has_core(core),
                 None => false,
             },
@@ -177,7 +174,7 @@ impl Reader<'_> {
     }
 
     fn is_one_core_too_many(&self, format: Format, line: &Line<&[u8]>) -> bool
-        ensures { result ≡ is_one_core_too_many format (kept self.now) (plain line.now) }
+        ensures { result ≡ is_one_core_too_many format (so_far self.now) (plain line.now) }
     {
         match line {
             Line::Core(_) => self.cores.len() >= format.cores as usize,
@@ -186,10 +183,10 @@ impl Reader<'_> {
     }
 
     fn is_boot_step(&self, line: &Line<&[u8]>) -> bool
-        ensures { result ≡ is_boot_step (kept self.now) (plain line.now) }
+        ensures { result ≡ is_boot_step (so_far self.now) (plain line.now) }
     {
         match line {
-            Line::Step(step) => match (core_of(*step), self.boot) {
+            Line::Step(step) => match (step.first_event().core(), self.boot) {
                 (Some(core), Some(boot)) => core == boot,
                 _ => false,
             },
@@ -197,42 +194,32 @@ impl Reader<'_> {
         }
     }
 
-    // The last step of the core that a step is of.
-    fn last_of(&self, step: StepLine) -> Option<StepLine>
-        ensures { result ≡ option_and_then (λ core. last_step core (kept self.now).steps) (core_of step) }
-    {
-        match core_of(step) {
-            Some(core) => self.steps.last(core),
-            None => None,
-        }
-    }
-
     fn is_out_of_turn(&self, line: &Line<&[u8]>) -> bool
-        ensures { result ≡ is_out_of_turn (kept self.now) (plain line.now) }
+        ensures { result ≡ is_out_of_turn (so_far self.now) (plain line.now) }
     {
         match line {
-            Line::Step(step) => !is_in_turn(self.last_of(*step), *step),
+            Line::Step(step) => !self.steps.is_in_turn(step.first_event()),
             _ => false,
         }
     }
 
-    fn is_wrong_finalise(&self, line: &Line<&[u8]>) -> bool
-        ensures { result ≡ is_wrong_finalise (kept self.now) (plain line.now) }
+    fn is_untimely(&self, line: &Line<&[u8]>) -> bool
+        ensures { result ≡ is_untimely (so_far self.now) (plain line.now) }
     {
         match line {
-            Line::Step(StepLine::Finalise) => self.steps.is_final() || self.steps.is_in_flight(),
+            Line::Step(step) => self.steps.is_wrong_finalise(step.first_event()),
             _ => false,
         }
     }
 
     fn is_incomplete(&self, line: &Line<&[u8]>) -> bool
-        ensures { result ≡ is_incomplete (kept self.now) (plain line.now) }
+        ensures { result ≡ is_incomplete (so_far self.now) (plain line.now) }
     {
-        line.section() > 4 && (!self.steps.is_final() || self.steps.is_in_flight())
+        line.section() > 4 && !self.steps.is_complete()
     }
 
     fn is_table_outside(&self, line: &Line<&[u8]>) -> bool
-        ensures { result ≡ is_table_outside (kept self.now) (plain line.now) }
+        ensures { result ≡ is_table_outside (so_far self.now) (plain line.now) }
     {
         match (line, self.layout) {
             (Line::Image(length), Some(layout)) => {
@@ -246,7 +233,7 @@ impl Reader<'_> {
     /// The lowest kind that holds at a line after line 1.
     #[tactic(auto, unfolding(crate::specs::Kinds::kind_after))]
     pub fn kind_at(&self, format: Format, line: &Line<&[u8]>) -> Option<TextKind>
-        ensures { result ≡ kind_after format (kept self.now) (plain line.now) }
+        ensures { result ≡ kind_after format (so_far self.now) (plain line.now) }
     {
         if line.is_skipped() {
             None
@@ -270,7 +257,7 @@ impl Reader<'_> {
             Some(TextKind::BootStep)
         } else if self.is_out_of_turn(line) {
             Some(TextKind::Turn)
-        } else if self.is_wrong_finalise(line) {
+        } else if self.is_untimely(line) {
             Some(TextKind::Finalise)
         } else if self.is_incomplete(line) {
             Some(TextKind::Incomplete)

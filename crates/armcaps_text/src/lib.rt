@@ -1,16 +1,12 @@
 //! The machine text: what it says of a machine, and where and why another text is refused.
 #![tactic(auto)]
 
-mod alternative;
 mod arguments;
-mod draws;
 mod form;
 mod format;
 mod generator;
-mod instruction;
 mod kind;
 mod kinds;
-mod large_image;
 pub mod laws;
 mod line;
 mod lines;

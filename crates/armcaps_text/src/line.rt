@@ -4,7 +4,7 @@ use crate::format::Format;
 use crate::kind::TextKind;
 use crate::tokens::{Tokens, text_after_word};
 use armcaps_alt::{CallbackKind, Conduit, Layout};
-use armcaps_boot::StepLine;
+use armcaps_board::StepLine;
 use armcaps_enc::SysReg;
 
 /// A line after line 1.

@@ -10,20 +10,14 @@ use crate::line::Line;
 use crate::lines::{TEXT_LIMIT, first_mebibyte, next_line};
 use crate::reader::Reader;
 use armcaps_alt::{Conduit, Layout, Names};
-use armcaps_boot::StepLine;
-use armcaps_cmdline::parse;
-use armcaps_tables::{CoreRegs, Overrides};
+use armcaps_board::{Board, StepLine};
 use std::alloc::Global;
 
 /// A machine, as a text says it.
 #[derive(Drop)]
 pub struct Machine {
-    /// What each core tells of itself, in the order of the cores' numbers.
-    pub cores: Vec<CoreRegs>,
-    /// The number of the core that the machine boots on.
-    pub boot: u32,
-    /// The overrides that the command line gives.
-    pub overrides: Overrides,
+    /// The cores in the order of their numbers, the boot core, and the overrides that the command line gives.
+    pub board: Board,
     /// The steps in the order of the text.
     pub steps: Vec<StepLine>,
     /// What the numbers and callbacks of the table of alternatives stand for.
@@ -45,8 +39,8 @@ fn unended_kind(bytes: &[u8]) -> TextKind
     }
 }
 
-// Reads the lines of a text after line 1, and says how many bytes they take. Where no line of them is the last, a line that has
-// not ended is refused by this kind.
+// Reads the lines of a text after line 1, and says how many bytes they take. Where no line of them is the last, a
+// line that has not ended is refused by this kind.
 fn read_lines(
     alloc: Global,
     format: Format,
@@ -54,9 +48,12 @@ fn read_lines(
     unended: TextKind,
 ) -> Result<(Machine, usize), TextRefused>
     requires length { length text.now ≤ 1_048_576 }
-    ensures reads { IfOk result (λ read. (header : List ℕ) → outcome_after unended header (ended_lines text.now) format ≡ Reads (reading_of read.0) (length header + 1 + read.1)) }
+    ensures reads { IfOk result (λ read. (header : List ℕ)
+        → outcome_after unended header (ended_lines text.now) format
+        ≡ Reads (reading_of read.0) (length header + 1 + read.1)) }
     ensures place { IfOk result (λ read. read.1 ≤ length text.now) }
-    ensures refuses { IfErr result (λ refused. (header : List ℕ) → IsRefusal (outcome_after unended header (ended_lines text.now) format) refused) }
+    ensures refuses { IfErr result (λ refused. (header : List ℕ)
+        → IsRefusal (outcome_after unended header (ended_lines text.now) format) refused) }
 {
     let mut reader = Reader::new(alloc);
     let mut lines = 0;
@@ -80,11 +77,11 @@ fn read_lines(
 }
 
 impl Machine {
-    /// Reads the machine text at the beginning of the bytes, and says how many of them it takes. What follows its last
-    /// line is not looked at, but that it is there decides whether a text that does not end is cut off or too long. A text
-    /// is refused at the first line where some kind holds, with the lowest kind there. Memory may run out on any text.
-    /// What is read is sound: the boot core is one of the cores, the steps are in order and complete, no override is of a
-    /// row of CTR_EL0, and the table of alternatives lies in the image.
+    /// Reads the machine text at the beginning of the bytes, and says how many of them it takes. What follows its
+    /// last line is not looked at, but that it is there decides whether a text that does not end is cut off or too
+    /// long. A text is refused at the first line where some kind holds, with the lowest kind there. Memory may run
+    /// out on any text. What is read is sound: the boot core is one of the cores, the steps are in order and
+    /// complete, no override is of a row of CTR_EL0, and the table of alternatives lies in the image.
     #[tactic(auto, unfolding(crate::specs::Document::outcome))]
     pub fn read(alloc: Global, bytes: &[u8]) -> Result<(Machine, usize), TextRefused>
         ensures reads { IfOk result (λ read. outcome bytes.now ≡ Reads (reading_of read.0) read.1) }

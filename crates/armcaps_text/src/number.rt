@@ -10,7 +10,8 @@ const DECIMAL_BYTES: usize = 20;
 // A hexadecimal number has at most this many bytes, `0x` among them.
 const HEXADECIMAL_BYTES: usize = 18;
 
-/// The number that a token is: 1 to 20 decimal digits, or `0x` and 1 to 16 hexadecimal digits of either case, below 2^64.
+/// The number that a token is: 1 to 20 decimal digits, or `0x` and 1 to 16 hexadecimal digits of either case, below
+/// 2^64.
 #[tactic(auto, unfolding(crate::specs::Numbers::number_of))]
 pub fn number_of(token: &[u8]) -> Option<u64>
     ensures { result ≡ number_of token.now }

@@ -13,7 +13,7 @@ use crate::line::Line;
 use crate::machine::Machine;
 use crate::steps::Steps;
 use armcaps_alt::{CallbackKind, Conduit, Layout, Named, Names};
-use armcaps_boot::StepLine;
+use armcaps_board::{Board, StepLine};
 use armcaps_cmdline::parse;
 use armcaps_enc::SysReg;
 use armcaps_tables::CoreRegs;
@@ -68,7 +68,11 @@ fn make_names(
     conduit: Option<Conduit>,
 ) -> Result<Names, AllocError>
     requires { All (λ e. IsKnown e.1) (entries (map_of numbers)) }
-    ensures { IfOk result (λ names. names ≡ record { numbers = entries (map_of numbers); callbacks = entries (map_of callbacks); conduit = unwrap_or conduit way.None }) }
+    ensures { IfOk result (λ names. names ≡ record {
+      numbers = entries (map_of numbers);
+      callbacks = entries (map_of callbacks);
+      conduit = unwrap_or conduit way.None;
+    }) }
 {
     let numbers = entries_of(alloc, numbers)?;
     let callbacks = entries_of(alloc, callbacks)?;
@@ -83,13 +87,13 @@ impl<'a> Reader<'a> {
     ghost use Rattle.armcaps_text.specs.Kinds.{kind_after};
     ghost use Rattle.armcaps_text.specs.Learned.{zero_core, with_last, with_word, with_lengths, named_after, measured_after, put_into, learned};
     ghost use Rattle.armcaps_text.specs.Meaning.{plain, section_of};
-    ghost use Rattle.armcaps_text.specs.Reader.{kept};
+    ghost use Rattle.armcaps_text.specs.Reader.{so_far};
     ghost use Rattle.armcaps_text.specs.declared.line.Line.TheVariants as line;
 
     /// A reader before the first line.
     #[tactic(auto, unfolding(crate::specs::Before::before))]
     pub fn new(alloc: Global) -> Reader<'a>
-        ensures { kept result ≡ before [] }
+        ensures { so_far result ≡ before [] }
     {
         Reader {
             cores: Vec::new(alloc),
@@ -109,7 +113,11 @@ impl<'a> Reader<'a> {
 
     // Begins a core.
     fn begin_core(&mut self) -> Result<(), AllocError>
-        ensures { OnOk result (kept self.new ≡ record (kept self.old) { cores = (kept self.old).cores ++ zero_core ∷ []; named = []; measured = false }) }
+        ensures { OnOk result (so_far self.new ≡ record (so_far self.old) {
+          cores = (so_far self.old).cores ++ zero_core ∷ [];
+          named = [];
+          measured = false;
+        }) }
     {
         self.cores.push(CoreRegs::zero())?;
         self.named.clear();
@@ -119,7 +127,10 @@ impl<'a> Reader<'a> {
 
     // Gives a word to a register of the core begun last.
     fn set_register(&mut self, reg: SysReg, word: u64) -> Result<(), AllocError>
-        ensures { OnOk result (kept self.new ≡ record (kept self.old) { cores = with_last (with_word reg word) (kept self.old).cores; named = named_after (kept self.old).cores (kept self.old).named (line.Register reg word) }) }
+        ensures { OnOk result (so_far self.new ≡ record (so_far self.old) {
+          cores = with_last (with_word reg word) (so_far self.old).cores;
+          named = named_after (so_far self.old).cores (so_far self.old).named (line.Register reg word);
+        }) }
     {
         if let Some(last) = self.cores.len().checked_sub(1) {
             self.named.push(reg)?;
@@ -131,7 +142,11 @@ impl<'a> Reader<'a> {
 
     // Gives vector lengths to the core begun last.
     fn set_lengths(&mut self, lengths: u16)
-        ensures { kept self.new ≡ record (kept self.old) { cores = with_last (with_lengths lengths) (kept self.old).cores; measured = measured_after (kept self.old).cores (kept self.old).measured (line.VectorLengths lengths) } }
+        ensures { so_far self.new ≡ record (so_far self.old) {
+          cores = with_last (with_lengths lengths) (so_far self.old).cores;
+          measured = measured_after (so_far self.old).cores (so_far self.old).measured
+              (line.VectorLengths lengths);
+        } }
     {
         if let Some(last) = self.cores.len().checked_sub(1) {
             self.measured = true;
@@ -142,7 +157,8 @@ impl<'a> Reader<'a> {
 
     // Adds a step.
     fn add_step(&mut self, step: StepLine) -> Result<(), AllocError>
-        ensures { OnOk result (kept self.new ≡ record (kept self.old) { steps = (kept self.old).steps ++ step ∷ [] }) }
+        ensures { OnOk result (so_far self.new
+            ≡ record (so_far self.old) { steps = (so_far self.old).steps ++ step ∷ [] }) }
     {
         self.steps.push(step)
     }
@@ -150,7 +166,9 @@ impl<'a> Reader<'a> {
     // Names a number.
     #[tactic(auto, using(crate::proofs::Maps::put_entry))]
     fn name(&mut self, number: u16, named: Named) -> Result<(), AllocError>
-        ensures { OnOk result (kept self.new ≡ record (kept self.old) { numbers = put_into (kept self.old).numbers (Some (number, named)) }) }
+        ensures { OnOk result (so_far self.new ≡ record (so_far self.old) {
+          numbers = put_into (so_far self.old).numbers (Some (number, named));
+        }) }
     {
         self.numbers.insert(number, named)?;
         Ok(())
@@ -159,7 +177,9 @@ impl<'a> Reader<'a> {
     // Names a callback.
     #[tactic(auto, using(crate::proofs::Maps::put_entry))]
     fn call(&mut self, offset: u32, kind: CallbackKind) -> Result<(), AllocError>
-        ensures { OnOk result (kept self.new ≡ record (kept self.old) { callbacks = put_into (kept self.old).callbacks (Some (offset, kind)) }) }
+        ensures { OnOk result (so_far self.new ≡ record (so_far self.old) {
+          callbacks = put_into (so_far self.old).callbacks (Some (offset, kind));
+        }) }
     {
         self.callbacks.insert(offset, kind)?;
         Ok(())
@@ -167,7 +187,7 @@ impl<'a> Reader<'a> {
 
     // Notes the section of a line.
     fn reach(&mut self, section: u8)
-        ensures { kept self.new ≡ record (kept self.old) { section = max (kept self.old).section section } }
+        ensures { so_far self.new ≡ record (so_far self.old) { section = max (so_far self.old).section section } }
     {
         self.section = self.section.max(section);
     }
@@ -175,7 +195,7 @@ impl<'a> Reader<'a> {
     /// Takes in what a line says.
     #[tactic(auto, unfolding(crate::specs::Learned::learned))]
     pub fn learn(&mut self, line: &Line<&'a [u8]>) -> Result<(), AllocError>
-        ensures { OnOk result (kept self.new ≡ learned (kept self.old) (plain line.now)) }
+        ensures { OnOk result (so_far self.new ≡ learned (so_far self.old) (plain line.now)) }
     {
         self.reach(line.section());
         match *line {
@@ -204,9 +224,10 @@ impl<'a> Reader<'a> {
         line: &Line<&'a [u8]>,
     ) -> Result<(), TextRefused>
         requires { lines + 2 < 2 ^ 32 }
-        ensures kind { OnOk result (kind_after format (kept self.old) (plain line.now) ≡ None) }
-        ensures kept { OnOk result (kept self.new ≡ learned (kept self.old) (plain line.now)) }
-        ensures refused { IfErr result (λ refused. IsRefusalAt (kind_after format (kept self.old) (plain line.now)) lines refused) }
+        ensures kind { OnOk result (kind_after format (so_far self.old) (plain line.now) ≡ None) }
+        ensures kept { OnOk result (so_far self.new ≡ learned (so_far self.old) (plain line.now)) }
+        ensures refused { IfErr result (λ refused.
+            IsRefusalAt (kind_after format (so_far self.old) (plain line.now)) lines refused) }
     {
         if let Some(kind) = self.kind_at(format, line) {
             return Err(TextRefused::Line {
@@ -222,10 +243,10 @@ impl<'a> Reader<'a> {
 
     /// The machine that the lines describe, once they name its boot core and the image.
     pub fn machine(self, alloc: Global) -> Result<Machine, AllocError>
-        requires boot { IsSome (kept self).boot }
-        requires image { IsSome (kept self).image }
-        requires known { All (λ e. IsKnown e.1) (entries (kept self).numbers) }
-        ensures { IfOk result (λ machine. reading_of machine ≡ reading_after (kept self.entry)) }
+        requires boot { IsSome (so_far self).boot }
+        requires image { IsSome (so_far self).image }
+        requires known { All (λ e. IsKnown e.1) (entries (so_far self).numbers) }
+        ensures { IfOk result (λ machine. reading_of machine ≡ reading_after (so_far self.entry)) }
     {
         let Reader {
             cores,
@@ -243,9 +264,11 @@ impl<'a> Reader<'a> {
         } = self;
         let names = make_names(alloc, numbers, callbacks, conduit)?;
         Ok(Machine {
-            cores,
-            boot: boot.unwrap(),
-            overrides: parse(command_line.unwrap_or(&[])),
+            board: Board {
+                cores,
+                boot: boot.unwrap(),
+                overrides: parse(command_line.unwrap_or(&[])),
+            },
             steps: steps.into_vec(),
             names,
             layout: layout.unwrap_or(Layout { table: 0, count: 0 }),

@@ -1,7 +1,7 @@
 // Texts and what becomes of them.
 use crate::{Format, Machine, TextKind, TextRefused, generate};
 use armcaps_alt::{CallbackKind, Conduit, Layout, Named};
-use armcaps_boot::StepLine;
+use armcaps_board::StepLine;
 use armcaps_enc::SysReg;
 use armcaps_tables::find;
 use std::alloc::{AllocError, Global};
@@ -370,10 +370,10 @@ fn reads_a_small_machine(rt: HostRuntime) -> Result<(), Fail> {
     let text = "armcaps 1\ncore 0\nid_aa64isar0_el1 0x11120\nboot 0\nfinalise\nend\n";
     let (machine, place) = Machine::read(rt.alloc(), text.as_bytes())?;
     assert_eq!(rt; place, text.len());
-    assert_eq!(rt; machine.cores.len(), 1);
-    assert_eq!(rt; machine.cores[0].get(SysReg::IdAa64Isar0El1), 0x11120);
-    assert_eq!(rt; machine.cores[0].get(SysReg::CtrEl0), 0);
-    assert_eq!(rt; machine.boot, 0);
+    assert_eq!(rt; machine.board.cores.len(), 1);
+    assert_eq!(rt; machine.board.cores[0].get(SysReg::IdAa64Isar0El1), 0x11120);
+    assert_eq!(rt; machine.board.cores[0].get(SysReg::CtrEl0), 0);
+    assert_eq!(rt; machine.board.boot, 0);
     assert_eq!(rt; machine.steps.as_slice(), [StepLine::Finalise].as_slice());
     assert_eq!(rt; machine.names.conduit(), Conduit::None);
     assert_eq!(rt; machine.layout, Layout { table: 0, count: 0 });
@@ -384,23 +384,29 @@ fn reads_a_small_machine(rt: HostRuntime) -> Result<(), Fail> {
 // Every line of format 2, in other spellings too, and bytes after the last line.
 #[test]
 fn reads_every_line(rt: HostRuntime) -> Result<(), Fail> {
-    let text =
-        "armcaps   2\n# two cores\ncore 0x0\n ctr_el0   0xAbCd  \nmidr_el1 18446744073709551615\n\ncore 01\nsve_vl 0x3\n boot 1\ncmdline quiet id_aa64isar0.aes=0x11\ncheck 0\nlocal 0\nstore 0\nfinalise\noffline 000\nonline 0\nnumber 9 MTE\ngiven 3 FW_x on\ngiven 7 FW_y off\nconduit smc\ncallback 8 final_ctr\ncallback 4 keep\ntable 88 1\nimage 100\n";
+    let text = "armcaps   2\n# two cores\ncore 0x0\n ctr_el0   0xAbCd  \n\
+         midr_el1 18446744073709551615\n\ncore 01\nsve_vl 0x3\n boot 1\n\
+         cmdline quiet id_aa64isar0.aes=0x11\ncheck 0\nlocal 0\nstore 0\nfinalise\n\
+         offline 000\nonline 0\nnumber 9 MTE\ngiven 3 FW_x on\ngiven 7 FW_y off\n\
+         conduit smc\ncallback 8 final_ctr\ncallback 4 keep\ntable 88 1\nimage 100\n";
     let input = format!(in rt.alloc(); "{text}no line\n")?;
     let (machine, place) = Machine::read(rt.alloc(), input.as_bytes())?;
     assert_eq!(rt; place, text.len());
-    assert_eq!(rt; machine.cores.len(), 2);
-    assert_eq!(rt; machine.cores[0].get(SysReg::CtrEl0), 0xabcd);
+    assert_eq!(rt; machine.board.cores.len(), 2);
+    assert_eq!(rt; machine.board.cores[0].get(SysReg::CtrEl0), 0xabcd);
     assert_eq!(rt;
-        machine.cores[0].get(SysReg::MidrEl1),
+        machine.board.cores[0].get(SysReg::MidrEl1),
         0xffff_ffff_ffff_ffff
     );
-    assert_eq!(rt; machine.cores[0].vls(), 0);
-    assert_eq!(rt; machine.cores[1].get(SysReg::CtrEl0), 0);
-    assert_eq!(rt; machine.cores[1].vls(), 3);
-    assert_eq!(rt; machine.boot, 1);
+    assert_eq!(rt; machine.board.cores[0].vls(), 0);
+    assert_eq!(rt; machine.board.cores[1].get(SysReg::CtrEl0), 0);
+    assert_eq!(rt; machine.board.cores[1].vls(), 3);
+    assert_eq!(rt; machine.board.boot, 1);
     let aes = find(SysReg::IdAa64Isar0El1, b"aes".as_slice()).expect(&rt, "aes");
-    assert_eq!(rt; machine.overrides.get(SysReg::IdAa64Isar0El1, aes), Some(1));
+    assert_eq!(rt;
+        machine.board.overrides.get(SysReg::IdAa64Isar0El1, aes),
+        Some(1)
+    );
     let steps = [
         StepLine::Check(0),
         StepLine::Local(0),
@@ -446,23 +452,21 @@ fn prints_a_refusal(rt: HostRuntime) -> Result<(), Fail> {
     Ok(())
 }
 
+// What is made from a number, as a machine with its names and its table.
 #[test]
 fn makes_a_machine_from_a_number(rt: HostRuntime) -> Result<(), Fail> {
     let (machine, image) = generate(rt.alloc(), 7, 8)?;
-    assert_eq!(rt; machine.cores.len(), 8);
-    assert_eq!(rt; machine.cores[4].get(SysReg::MidrEl1), 0x410f_d092);
-    assert_eq!(rt; machine.cores[5].get(SysReg::MidrEl1), 0x410f_d034);
-    assert_eq!(rt; image.len(), 2_097_152);
-    let entry = [0, 0, 4, 0, 0xfc, 0xff, 0x0f, 0, 0x17, 0, 16, 16];
-    assert_eq!(rt; &image[..12], entry.as_slice());
-    let words = [
-        0x2f, 0x03, 0xfd, 0x97, 0x1f, 0x20, 0x03, 0xd5, 0x80, 0x02, 0x00, 0xf0, 0x1f, 0x20, 0x03,
-        0xd5,
-    ];
-    assert_eq!(rt; &image[1_048_576..1_048_592], words.as_slice());
-    let last = [
-        0x20, 0x8d, 0x84, 0x52, 0x40, 0xf5, 0xff, 0xf0, 0x88, 0x90, 0xfa, 0x97,
-    ];
-    assert_eq!(rt; &image[1_688_544..1_688_556], last.as_slice());
+    assert_eq!(rt; machine.board.cores.len(), 8);
+    assert_eq!(rt; machine.board.boot, 0);
+    assert_eq!(rt; machine.steps.len(), 8);
+    assert_eq!(rt; machine.names.find(23), Some(Named::Cap(23)));
+    assert_eq!(rt;
+        machine.layout,
+        Layout {
+            table: 0,
+            count: 20_000
+        }
+    );
+    assert_eq!(rt; machine.image as usize, image.len());
     Ok(())
 }

@@ -1,7 +1,0 @@
-use Rattle.std.proofs.Common.{◌≡◌, ◌-◌}
-use Rattle.armcaps_text.specs.Generator.{alternative_drawn, several}
-use Rattle.armcaps_text.proofs.Drawing.{then_drawn}
-use Rattle.armcaps_text.proofs.draws.Draws.alternatives.Given as goal
-
-abbrev pub invariant-loop : goal.invariant-loop
-invariant-loop l = several alternative_drawn l.count l.initial.self.state ≡ then_drawn l.drawn.items (several alternative_drawn (l.count - l.counter) l.self.state)

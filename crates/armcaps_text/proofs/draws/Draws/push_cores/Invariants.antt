@@ -1,7 +1,0 @@
-use Rattle.std.proofs.Common.{◌≡◌, ◌-◌}
-use Rattle.armcaps_text.specs.Generator.{core_drawn, several}
-use Rattle.armcaps_text.proofs.Drawing.{then_drawn}
-use Rattle.armcaps_text.proofs.draws.Draws.push_cores.Given as goal
-
-abbrev pub invariant-loop : goal.invariant-loop
-invariant-loop l = then_drawn l.initial.cores.items (several core_drawn l.count l.initial.self.state) ≡ then_drawn l.cores.items (several core_drawn (l.count - l.counter) l.self.state)

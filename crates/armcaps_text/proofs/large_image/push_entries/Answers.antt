@@ -1,9 +1,0 @@
-use Rattle.std.proofs.Common.{◌++◌, ap, ◌∙◌}
-use Rattle.armcaps_text.specs.LargeImage.{entry_bytes}
-use Rattle.armcaps_text.proofs.Laying.{laid-more}
-use Rattle.armcaps_text.proofs.large_image.push_entries.Goals as goal
-
-pub loop-index-preserved : goal.loop-index-preserved
-loop-index-preserved c =
-    let more = laid-more entry_bytes c.args.alternatives.now c.loop-index.index c.index-alternatives-index.result c.args.image.now.items c.loop-index.image.items c.loop-index-test.true c.loop-index.invariant in
-    c.in_ok-push_entry.ensures ∙ ap (λ (alternative : _). c.loop-index.image.items ++ entry_bytes c.loop-index.index alternative) c.index-alternatives-index.is ∙ more

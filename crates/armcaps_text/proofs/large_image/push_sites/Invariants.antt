@@ -1,6 +1,0 @@
-use Rattle.std.proofs.Common.{◌≡◌, ◌++◌, take}
-use Rattle.armcaps_text.specs.LargeImage.{site_bytes, laid}
-use Rattle.armcaps_text.proofs.large_image.push_sites.Given as goal
-
-abbrev pub invariant-loop-index : goal.invariant-loop-index
-invariant-loop-index l = l.image.items ≡ l.initial.image.items ++ laid site_bytes (take l.index l.alternatives)
