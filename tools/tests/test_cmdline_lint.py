@@ -77,12 +77,46 @@ class CommandLines(unittest.TestCase):
             "arm64.nosve\r",
             "ctr.l1ip=0",
             "-- arm64.nosve",
+            "--arm64.nosve",
+            "arm64.nosve\narm64.nomte",
+            "id_aa64pfr1.mte=16",
+            "id_aa64isar1.apa=010",
+            "arm64.nolva",
         ]:
             with self.subTest(word=word):
                 self.assertEqual(tool("cmdline-lint", word).returncode, 1)
         self.assertEqual(
             tool("cmdline-lint", "quiet arm64.nosve root=/dev/vda2 id_aa64pfr0.fp=15 -- init").returncode, 0
         )
+
+    def remark(self, version, word):
+        """What is said of a word under one version of Linux, and the status."""
+        answer = tool("cmdline-lint", "--linux", version, word)
+        found = [line for line in answer.stdout.decode().splitlines() if line.startswith("  linux")]
+        return answer.returncode, found[0].partition(": ")[2] if found else ""
+
+    def test_what_linux_ignores_or_reads_otherwise(self):
+        for version, word, said in [
+            ("6.1", "id_aa64isar0.aes=1", "knows no field id_aa64isar0.aes"),
+            ("6.1", "arm64.nomops", "has no alias arm64.nomops"),
+            ("6.1", "id_aa64isar2.mops=0", "knows no field id_aa64isar2.mops"),
+            ("6.1", "id_aa64isar1.apa=012", "sets id_aa64isar1.apa to 10"),
+            ("6.1", "id_aa64isar1.apa=08", "takes a number in C's form"),
+            ("6.1", "id_aa64pfr1.mte=0X2", "sets id_aa64pfr1.mte to 2"),
+            ("6.12", "id_aa64pfr1.mte=12", "takes one hexadecimal digit"),
+            ("6.12", "id-aa64pfr1.mte=1", "sets id_aa64pfr1.mte to 1"),
+            ("6.12", "id_aa64mmfr2.varange=1", "takes no other value"),
+            ("6.12", "arm64.nolva", "takes it as id_aa64mmfr2.varange=0"),
+            ("6.12", "arm64.nosve", "leaves SME as it is"),
+            ("6.1", "kvm-arm.mode=nvhe", "takes it as id_aa64mmfr1.vh=0"),
+        ]:
+            with self.subTest(version=version, word=word):
+                status, remark = self.remark(version, word)
+                self.assertEqual(status, 1)
+                self.assertIn(said, remark)
+        for version, word in [("6.1", "arm64.nosve"), ("6.12", "id_aa64pfr0.el0=1"), ("6.6", "id_aa64isar2.mops=0")]:
+            self.assertEqual(self.remark(version, word), (0, ""))
+        self.assertEqual(tool("cmdline-lint", "--linux", "5.4", "x").returncode, 2)
 
 
 if __name__ == "__main__":
