@@ -23,13 +23,15 @@ use Rattle.armcaps_caps.specs.Rows.{capability_rows}
 abbrev pub row_says : (Row → Bool) → ℕ → Bool
 row_says test number = option_map_or test (slice_get capability_rows number) false
 
--- whether it is decided on the boot core, on each core, or over all early cores together
+-- whether a capability is decided on the boot core alone
 unfoldable pub is_boot_scope : ℕ → Bool
 is_boot_scope number = row_says (λ row. in_boot_scope row.class) number
 
+-- whether it is decided on each core alone
 unfoldable pub is_local_scope : ℕ → Bool
 is_local_scope number = row_says (λ row. in_local_scope row.class) number
 
+-- whether it is decided over all early cores together
 unfoldable pub is_system_scope : ℕ → Bool
 is_system_scope number = row_says (λ row. in_system_scope row.class) number
 

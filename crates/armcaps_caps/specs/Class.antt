@@ -1,7 +1,7 @@
--- The classes of capabilities: where a capability is decided, and what cores may have or lack that come up later
--- (Linux, arch/arm64/include/asm/cpufeature.h, `ARM64_CPUCAP_SYSTEM_FEATURE` and the four beside it).
+-- The classes of capabilities: where a capability is decided, and what cores may have or lack that come up later.
 use Rattle.std.specs.Prelude.{Bool, true, false}
 
+-- the five classes (Linux, arch/arm64/include/asm/cpufeature.h, `ARM64_CPUCAP_SYSTEM_FEATURE` and the four beside it)
 pub data Class : Type 0 where
   system_feature : Class
   erratum : Class

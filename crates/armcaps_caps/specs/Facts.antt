@@ -11,8 +11,8 @@ use Rattle.armcaps_caps.specs.Row.{Row}
 use Rattle.armcaps_caps.specs.Class.{Class, system_feature}
 use Rattle.armcaps_caps.specs.Capabilities.{capability_named, test_of}
 
--- a field that a capability tests keeps the minimum, an erratum names the capability in the table of errata, and the one
--- capability of the cache type is MISMATCHED_CACHE_TYPE
+-- a field that a capability tests keeps the minimum, an erratum names the capability in the table of errata, and the
+-- one capability of the cache type is MISMATCHED_CACHE_TYPE
 abbrev pub test_holds : ℕ → Test → Bool
 test_holds number Always = true
 test_holds number (AtLeast reg index minimum) = field_passes (row_keeps minimum) reg index

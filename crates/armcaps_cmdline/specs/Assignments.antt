@@ -73,7 +73,7 @@ alias_word NoMte = codes "arm64.nomte"
 alias_word NoMops = codes "arm64.nomops"
 alias_word NoPauth = codes "arm64.nopauth"
 
--- a field at 0
+-- the setting of a register's field, by its name, to 0
 abbrev pub off : SysReg → String → Setting
 off register field = record { register = register; field = codes field; number = 0 }
 
@@ -101,19 +101,25 @@ alias_named word = find (λ alias. bytes_eq (alias_word alias) word) aliases
 unfoldable pub register_of : List ℕ → Option SysReg
 register_of name = find (λ register. bytes_eq (short_name_of register) name) id_registers
 
+-- whether a byte is a dot, which ends the register in a word
 abbrev pub is_dot : ℕ → Bool
 is_dot byte = byte == 46
 
+-- whether a byte is an equals sign, behind which a word has its value
 abbrev pub is_equals : ℕ → Bool
 is_equals byte = byte == 61
 
--- what stands in a word in the place of REG, FIELD and VALUE of `REG.FIELD=VALUE`; empty for one that is missing
+-- what stands in a word in the place of REG of `REG.FIELD=VALUE`: what comes before the first dot, before the first
+-- equals sign
 abbrev pub register_part : List ℕ → List ℕ
 register_part word = before_first is_dot (before_first is_equals word)
 
+-- what stands in a word in the place of FIELD: what comes after the first dot, before the first equals sign; empty
+-- where there is no dot
 abbrev pub field_part : List ℕ → List ℕ
 field_part word = after_first is_dot (before_first is_equals word)
 
+-- what stands in a word in the place of VALUE: what comes after the first equals sign; empty where there is none
 abbrev pub value_part : List ℕ → List ℕ
 value_part word = after_first is_equals word
 

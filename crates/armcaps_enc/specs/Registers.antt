@@ -19,6 +19,7 @@ pub record Description : Type 0 where
   pub encoding : Encoding
   pub name : List ℕ
 
+-- the description of these five numbers and this name
 abbrev described_by : ℕ → ℕ → ℕ → ℕ → ℕ → String → Description
 described_by op0 op1 crn crm op2 name = record {
   encoding = record { op0 = op0; op1 = op1; crn = crn; crm = crm; op2 = op2 };

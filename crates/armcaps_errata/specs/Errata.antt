@@ -1,28 +1,34 @@
 -- The errata that are worked around, in the order of their capabilities' numbers. Which are listed, and their ranges,
 -- are this project's profile after Linux, arch/arm64/kernel/cpu_errata.c, and Arm's Software Developers Errata Notices.
--- A line has the capability's number, the processors from a first version to a last one, and the fixes. A version rXpY is
--- 0xXY.
+-- A line has the capability's number, the processors from a first version to a last one, and the fixes. A version rXpY
+-- is 0xXY.
 use Rattle.std.specs.Prelude.{ℕ, List, [], ◌∷◌}
 use Rattle.armcaps_midr.specs.declared.processor.MidrRange.{MidrRange}
 use Rattle.armcaps_midr.specs.declared.processor.Fix.{Fix}
 use Rattle.armcaps_errata.specs.Erratum.{Erratum}
 
--- the models: MIDR without Variant and Revision (Linux, arch/arm64/include/asm/cputype.h, `MIDR_CORTEX_A53` and so on)
+-- the model Cortex-A53: its MIDR without Variant and Revision, as of each model here (Linux,
+-- arch/arm64/include/asm/cputype.h, `MIDR_CORTEX_A53` and so on)
 abbrev cortex_a53 : ℕ
 cortex_a53 = 0x410fd030
 
+-- the model Cortex-A57
 abbrev cortex_a57 : ℕ
 cortex_a57 = 0x410fd070
 
+-- the model Cortex-A72
 abbrev cortex_a72 : ℕ
 cortex_a72 = 0x410fd080
 
+-- the model Cortex-A73
 abbrev cortex_a73 : ℕ
 cortex_a73 = 0x410fd090
 
+-- the model Cortex-A76
 abbrev cortex_a76 : ℕ
 cortex_a76 = 0x410fd0b0
 
+-- the model Cortex-A77
 abbrev cortex_a77 : ℕ
 cortex_a77 = 0x410fd0d0
 

@@ -22,7 +22,8 @@ shows value field = field_passes (λ row. row.visible
 abbrev pub row_shows : (SysReg → ℕ → FieldRow → ℤ) → Row → Bool
 row_shows value row = row.always || list_any (shows value) row.fields
 
--- the same of the hwcap at a place of the table, and false where there is none
+-- whether the hwcap at a place of the table is of every machine, or one of its fields shows it; false where there is
+-- none
 unfoldable pub hwcap_shows : (SysReg → ℕ → FieldRow → ℤ) → ℕ → Bool
 hwcap_shows value index = option_map_or (row_shows value) (slice_get hwcap_rows index) false
 

@@ -9,10 +9,11 @@ use Rattle.armcaps_tables.specs.FieldNames.{ID_AA64ISAR0_AES, ID_AA64ISAR0_ATOMI
 use Rattle.armcaps_hwcap.specs.declared.row.HwField.{HwField}
 use Rattle.armcaps_hwcap.specs.Row.{Row}
 
--- the two words
+-- a row stands in the first word, AT_HWCAP
 abbrev hwcap : Bool
 hwcap = false
 
+-- a row stands in the second word, AT_HWCAP2
 abbrev hwcap2 : Bool
 hwcap2 = true
 

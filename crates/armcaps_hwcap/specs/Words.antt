@@ -24,15 +24,16 @@ bit_of second test index row = if stands_in second row && test index then 2 ^ ro
 unfoldable pub bits_of : Bool → (ℕ → Bool) → ℕ
 bits_of second test = sum_by (λ item. bit_of second test item.0 item.1) (enumerate_from 0 hwcap_rows)
 
--- the same of the first rows of the table, `count` of them
+-- the sum of the bits of a word's rows whose index passes the test, among the first `count` rows of the table
 unfoldable pub bits_of_first : ℕ → Bool → (ℕ → Bool) → ℕ
 bits_of_first count second test =
     sum_by (λ item. bit_of second test item.0 item.1) (take count (enumerate_from 0 hwcap_rows))
 
--- the first and the second word
+-- the first word, AT_HWCAP, of the hwcaps whose index passes the test
 abbrev pub hwcap_word : (ℕ → Bool) → ℕ
 hwcap_word test = bits_of false test
 
+-- the second word, AT_HWCAP2, of the hwcaps whose index passes the test
 abbrev pub hwcap2_word : (ℕ → Bool) → ℕ
 hwcap2_word test = bits_of true test
 
@@ -44,7 +45,8 @@ pub record HasFirst (count : ℕ) (test : ℕ → Bool) (set : HwSet) : Type 0 w
 -- whether the bit of the hwcap at a place of the table is set in its word
 unfoldable pub set_has_row : HwSet → ℕ → Bool
 set_has_row set index =
-    option_map_or (λ row. bit_at (if row.second then set.hwcap2 else set.hwcap) row.bit == 1) (slice_get hwcap_rows index) false
+    option_map_or (λ row. bit_at (if row.second then set.hwcap2 else set.hwcap) row.bit == 1)
+    (slice_get hwcap_rows index) false
 
 -- the set has the hwcaps that are advertised over some cores, and no others
 pub record IsAdvertised (overrides : FieldOverrides) (cores : List Core) (set : HwSet) : Type 0 where

@@ -7,7 +7,8 @@ ghost use Rattle.armcaps_lex.specs.Digits.{digits_number, value_of};
 fn with_digit(base: u32, number: u64, byte: u8) -> Option<u64>
     requires low { 2 ≤ base }
     requires high { base ≤ 36 }
-    ensures { result ≡ (if is_digit byte base && nat_lt (number * base + digit_value byte) (2 ^ 64) then Some (number * base + digit_value byte) else None) }
+    ensures { result ≡ (if is_digit byte base && nat_lt (number * base + digit_value byte) (2 ^ 64)
+        then Some (number * base + digit_value byte) else None) }
 {
     let digit = char::from(byte).to_digit(base)?;
     number
@@ -32,24 +33,24 @@ fn number_in(base: u32, digits: &[u8]) -> Option<u64>
     Some(number)
 }
 
-/// The number that decimal digits write, one or more of them: `None` where a byte is none of `0` to `9`, or the number is
-/// not below 2^64.
+/// The number that decimal digits write, one or more of them: `None` where a byte is none of `0` to `9`, or the number
+/// is not below 2^64.
 pub fn decimal(digits: &[u8]) -> Option<u64>
     ensures { result ≡ digits_number 10 digits.now }
 {
     number_in(10, digits)
 }
 
-/// The number that hexadecimal digits write, one or more of them, of either case and without `0x`: `None` where a byte is
-/// no such digit, or the number is not below 2^64.
+/// The number that hexadecimal digits write, one or more of them, of either case and without `0x`: `None` where a byte
+/// is no such digit, or the number is not below 2^64.
 pub fn hexadecimal(digits: &[u8]) -> Option<u64>
     ensures { result ≡ digits_number 16 digits.now }
 {
     number_in(16, digits)
 }
 
-/// The number that bytes write: decimal digits, or `0x` with a small x and hexadecimal digits of either case; at least one
-/// digit and as many as there are, below 2^64.
+/// The number that bytes write: decimal digits, or `0x` with a small x and hexadecimal digits of either case; at least
+/// one digit and as many as there are, below 2^64.
 #[tactic(auto, unfolding(crate::specs::Digits::value_of))]
 pub fn value_of(bytes: &[u8]) -> Option<u64>
     ensures { result ≡ value_of bytes.now }

@@ -22,12 +22,14 @@ fn end_of(separators: &[u8], text: &[u8]) -> Option<usize>
     text.iter().position(|byte| separates(separators, *byte))
 }
 
-/// The first piece of a text and what stands after it; `None` where nothing but separators is left. Separators cut a text,
-/// and a piece has at least one byte.
+/// The first piece of a text and what stands after it; `None` where nothing but separators is left. Separators cut a
+/// text, and a piece has at least one byte.
 #[tactic(auto, using(crate::proofs::PieceLemmas::pieces_some, crate::proofs::PieceLemmas::pieces_none))]
 pub fn next_piece<'a>(separators: &[u8], text: &'a [u8]) -> Option<(&'a [u8], &'a [u8])>
-    ensures cut { MatchOption result (pieces separators.now text.now ≡ []) (λ cut. pieces separators.now text.now ≡ cut.0.now ∷ pieces separators.now cut.1.now) }
-    ensures shorter { MatchOption result (pieces separators.now text.now ≡ []) (λ cut. length cut.1.now < length text.now) }
+    ensures cut { MatchOption result (pieces separators.now text.now ≡ [])
+        (λ cut. pieces separators.now text.now ≡ cut.0.now ∷ pieces separators.now cut.1.now) }
+    ensures shorter { MatchOption result (pieces separators.now text.now ≡ [])
+        (λ cut. length cut.1.now < length text.now) }
 {
     let start = start_of(separators, text)?;
     let text = &text[start..];

@@ -44,8 +44,8 @@ pub fn merging_again_changes_nothing(
         ≡ forced_of rule safe override_ (before.now ++ value ∷ after.now) }
 {}
 
-/// An override that merging with some core's value gives back is taken: it counts as one more value. Any other leaves no
-/// mark, whatever values stand beside that one.
+/// An override that merging with some core's value gives back is taken: it counts as one more value. Any other leaves
+/// no mark, whatever values stand beside that one.
 pub fn override_is_taken_or_ignored(
     rule: Rule,
     safe: i64,

@@ -13,7 +13,7 @@ use Rattle.armcaps_tables.specs.Fields.{field_in}
 abbrev pub row_varies : ℕ → ℕ → Row → Bool
 row_varies one other row = row.strict && not (int_eq (field_in row one) (field_in row other))
 
--- whether some strict field of a register has
+-- whether some strict field of a register has another value in one word than in another
 abbrev pub word_varies : SysReg → ℕ → ℕ → Bool
 word_varies reg one other = list_any (row_varies one other) (rows_of reg)
 

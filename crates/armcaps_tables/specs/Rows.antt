@@ -24,32 +24,39 @@ usual =
       strict = true;
     }
 
--- a field that users see, and one that they don't
+-- a field that users see, by its name and its lowest bit
 abbrev visible : String → ℕ → Row → Row
 visible name shift row = record row { name = codes name; shift = shift; visible = true }
 
+-- a field that users don't see
 abbrev hidden : String → ℕ → Row → Row
 hidden name shift row = record row { name = codes name; shift = shift; visible = false }
 
--- what is not as usual
+-- with so many bits
 abbrev bits : ℕ → Row → Row
 bits width row = record row { width = width }
 
+-- read as a signed number
 abbrev signed : Row → Row
 signed row = record row { signed = true }
 
+-- with this safe value
 abbrev safe : ℤ → Row → Row
 safe value row = record row { safe = value }
 
+-- the value that all cores have is kept, and else this safe value
 abbrev exact : ℤ → Row → Row
 exact value row = record row { rule = Exact; safe = value }
 
+-- the higher value is kept
 abbrev higher : Row → Row
 higher row = record row { rule = Higher }
 
+-- 0 is kept where a core has 0, and else the higher value
 abbrev higher_or_zero : Row → Row
 higher_or_zero row = record row { rule = HigherOrZero }
 
+-- cores that differ in it are not reported
 abbrev may_differ : Row → Row
 may_differ row = record row { strict = false }
 

@@ -44,8 +44,8 @@ fn merge_field<const SHIFT: u32, const WIDTH: u32>(
     requires low { word < 2 ^ SHIFT }
     requires safe { IsTrue (field_fits signed WIDTH safe) }
     ensures sum { result ≡ word
-        + field_bits WIDTH (merged rule safe (field_value signed SHIFT WIDTH current) (field_value signed SHIFT WIDTH other))
-        * 2 ^ SHIFT }
+        + field_bits WIDTH (merged rule safe (field_value signed SHIFT WIDTH current)
+        (field_value signed SHIFT WIDTH other)) * 2 ^ SHIFT }
     ensures below { result < 2 ^ (SHIFT + WIDTH) }
 {
     let current = field_in::<SHIFT, WIDTH>(signed, current);
