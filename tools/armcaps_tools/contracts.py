@@ -7,8 +7,8 @@ import re
 NAME = r"[^\W\d][\w'-]*"
 IMPORT = re.compile(r"(?:ghost )?(pub )?use Rattle\.(\w+)\.specs\.([\w.]+)\.\{([^}]*)\}")
 ITEM = re.compile(rf"(?:(abbrev|unfoldable)\s+)?(pub\s+)?(?:(record|data)\s+)?({NAME})")
-# what every file of definitions may begin a line with beside a definition
-OTHER = ("use", "pub use", "pub mod", "mod", "open", "syntax", "ruleset")
+# what a line of a file of definitions may begin with beside a definition and its equations
+OTHER = re.compile(r"(?:pub )?(?:use|mod|open|syntax|ruleset)\s")
 
 
 @dataclasses.dataclass
@@ -60,27 +60,21 @@ def words(text):
 
 
 def definitions_of(path, crate):
-    """The definitions of one file, in their order. One without a comment of its own shares that of the one before
-    it, and the first one that of the file."""
+    """The definitions of one file, in their order, each with the comment that stands directly above it, if one does."""
     text = path.read_text(encoding="utf-8")
-    head = re.match(r"(?:--[^\n]*\n)*", text).group()
-    found, comment, last = [], [], " ".join(line.lstrip("- ").strip() for line in head.splitlines())
+    found, comment = [], []
     for block in re.split(r"\n(?=[^\s}])", text):
         if block.startswith("--"):
             comment.append(block.lstrip("- ").strip())
-            if "\n\n" in block:
+            if block.endswith("\n"):  # an empty line, so the comment is of nothing
                 comment = []
             continue
         item = ITEM.match(block)
-        if not item or block.startswith(OTHER):
-            comment = []
-            continue
-        declared = item.group(1) or item.group(3) or block.startswith("pub ")
-        if declared:
-            last = " ".join(comment) or last
-            found.append(Definition(crate, path.stem, item.group(4), last, block))
-        elif found:
-            found[-1].text += "\n" + block  # an equation of the definition above
+        if item and not OTHER.match(block):
+            if item.group(1) or item.group(3) or block.startswith("pub "):
+                found.append(Definition(crate, path.stem, item.group(4), " ".join(comment), block))
+            elif found:
+                found[-1].text += "\n" + block  # an equation of the definition above
         comment = []
     local = {definition.name: definition.key for definition in found}
     known = {**imports_of(text), **local}

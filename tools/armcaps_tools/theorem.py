@@ -1,0 +1,112 @@
+"""Writes the page that has all of which the program's own theorem wants to be believed, in an order in which it can be
+read from top to bottom.
+"""
+
+import re
+
+ROOT = ("armcaps_top", "Run", "Promises")
+# the subjects of the page: the title, what it is about, and the crates and files of its definitions
+SUBJECTS = (
+    ("A run", "What is promised of one call, whatever its words and its input are.", ("armcaps_top/Run", "armcaps_top/Answer")),
+    ("How a run ends", "The endings, their statuses and lines, and what the streams gave and got.", (
+        "armcaps_top/Ending", "armcaps_top/Telling", "armcaps_io")),
+    ("Commands", "What the words ask for, and what each command writes.", ("armcaps_top", "armcaps_mrs", "armcaps_report")),
+    ("Input", "What text the bytes of an input are, and what it says.", ("armcaps_text", "armcaps_lex", "armcaps_cmdline")),
+    ("Cores", "How cores come up, step by step, which of them are admitted, and why others are parked.", (
+        "armcaps_board", "armcaps_boot")),
+    ("Registers", "What a register's fields are, and the one value that all admitted cores keep of each.", (
+        "armcaps_sanit", "armcaps_tables", "armcaps_rule", "armcaps_bits", "armcaps_enc")),
+    ("Capabilities and errata", "What a core and a system have, and when a core conflicts.", (
+        "armcaps_caps", "armcaps_errata", "armcaps_midr")),
+    ("Users", "What programs are told.", ("armcaps_hwcap",)),
+    ("Images", "What a patched image is.", ("armcaps_alt", "armcaps_image", "armcaps_insn", "armcaps_patch", "armcaps_elf", "armcaps_jump")),
+)
+# tables: their lines are read beside the manual or Linux, on a page of their own
+TABLES = {
+    ("armcaps_tables", "Rows"): "docs/FIELDS.md",
+    ("armcaps_tables", "FieldNames"): "docs/FIELDS.md",
+    ("armcaps_caps", "Rows"): "docs/CAPABILITIES.md",
+    ("armcaps_hwcap", "Rows"): "docs/HWCAPS.md",
+    ("armcaps_errata", "Errata"): "docs/CAPABILITIES.md",
+}
+HEAD = """<!-- Written by tools/definitions from the contracts and definitions of the crates. Do not edit. -->
+# The theorem
+
+A run of `armcaps` ends. Where its status is 0, the bytes that it was given are a document that no step stops, and it wrote exactly
+what its command makes of that document, and nothing else: registers, capabilities, hwcaps, vector lengths and patched words as they
+are defined below, for every order in which the cores came up. Each core that was admitted has every system feature that is enabled,
+and each workaround that such a core needs is enabled. Any other status says why nothing was written, or that a stream failed, and
+the line on the error stream says the same. The checker has proved this of `armcaps_top::run`, whose contract is the record `Promises`.
+
+This page is all that has to be believed of that: `Promises`, and each definition that it rests on, as it stands in crates/NAME/specs,
+with the words above it. A name is explained after its first use, in the order of the first use within a subject. It is
+{definitions} definitions in {lines} lines without comments and blank lines; {tabled} more are lines of tables, in {rows} lines, which
+are read beside the manual and Linux in docs/FIELDS.md, docs/CAPABILITIES.md and docs/HWCAPS.md. Functions compute; relations and
+records, whose names begin with a capital letter, say what holds. `abbrev` and `unfoldable` only tell the checker when to look inside, `pub`
+lets other files name it; words that are not here are of the toolchain's standard library.
+
+"""
+
+
+def lines_of(definition):
+    """The lines of a definition that say something."""
+    return [line for line in definition.text.splitlines() if line.strip() and not line.strip().startswith("--")]
+
+
+def in_order(citations, root):
+    """The definitions below one, each once, where it is first named, after the definition that names it."""
+    found, waiting = {}, [root]
+    while waiting:
+        key = waiting.pop(0)
+        if key not in found and key in citations.definitions:
+            definition = citations.definitions[key]
+            found[key] = definition
+            text = re.sub(r"--[^\n]*", "", definition.text)
+            cited = [citations.home(one) for one in definition.cites]
+            waiting += sorted(cited, key=lambda one: (text.find(one[2]), one))
+    return found
+
+
+def subject_of(key):
+    """The place of the subject whose files have the definition: a file that is named wins over its crate."""
+    for wanted in (f"{key[0]}/{key[1]}", key[0]):
+        for place, (_, _, homes) in enumerate(SUBJECTS):
+            if wanted in homes:
+                return place
+    raise LookupError(f"armcaps_tools/theorem.py has no subject for {key[0]}/specs/{key[1]}.antt")
+
+
+def block(definition):
+    """A definition as its file has it, with its comment, and where it stands."""
+    comment = definition.comment
+    told = f"{comment[0].upper()}{comment[1:]}." if comment else ""
+    return f"**{definition.name}** ({definition.crate[8:]}, {definition.file}). {told}\n\n```text\n{definition.text.strip()}\n```\n\n"
+
+
+def table(definitions):
+    """Lines of tables, by reference."""
+    for (crate, file), page in TABLES.items():
+        names = [f"`{one.name}`" for one in definitions if (one.crate, one.file) == (crate, file)]
+        if names:
+            shown = ", ".join(names[:3]) + (f" and {len(names) - 3} more" if len(names) > 3 else "")
+            yield f"Lines of tables, crates/{crate}/specs/{file}.antt and {page}: {shown}.\n\n"
+
+
+def page(citations):
+    every = in_order(citations, ROOT)
+    tabled = {key: one for key, one in every.items() if key[:2] in TABLES}
+    told = {key: one for key, one in every.items() if key not in tabled}
+    counts = {
+        "definitions": len(told),
+        "lines": sum(len(lines_of(one)) for one in told.values()),
+        "tabled": len(tabled),
+        "rows": sum(len(lines_of(one)) for one in tabled.values()),
+    }
+    yield HEAD.format(**counts)
+    for place, (title, about, _) in enumerate(SUBJECTS):
+        here = [one for key, one in told.items() if subject_of(key) == place]
+        rows = [one for key, one in tabled.items() if subject_of(key) == place]
+        if here or rows:
+            yield f"## {title}\n\n{about}\n\n"
+            yield from map(block, here)
+            yield from table(rows)
