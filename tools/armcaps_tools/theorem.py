@@ -20,6 +20,7 @@ SUBJECTS = (
         "armcaps_caps", "armcaps_errata", "armcaps_midr")),
     ("Users", "What programs are told.", ("armcaps_hwcap",)),
     ("Images", "What a patched image is.", ("armcaps_alt", "armcaps_image", "armcaps_insn", "armcaps_patch", "armcaps_elf", "armcaps_jump")),
+    ("Machines from a number", "What `demo` works on.", ("armcaps_generate", "armcaps_text/Generator")),
 )
 # tables: their lines are read beside the manual or Linux, on a page of their own
 TABLES = {
