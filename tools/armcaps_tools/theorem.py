@@ -19,8 +19,10 @@ SUBJECTS = (
     ("Capabilities and errata", "What a core and a system have, and when a core conflicts.", (
         "armcaps_caps", "armcaps_errata", "armcaps_midr")),
     ("Users", "What programs are told.", ("armcaps_hwcap",)),
-    ("Images", "What a patched image is.", ("armcaps_alt", "armcaps_image", "armcaps_insn", "armcaps_patch", "armcaps_elf", "armcaps_jump")),
-    ("Machines from a number", "What `demo` works on.", ("armcaps_generate", "armcaps_text/Generator")),
+    ("Images", "What a patched image is.", (
+        "armcaps_alt", "armcaps_image", "armcaps_insn", "armcaps_patch", "armcaps_elf", "armcaps_jump")),
+    ("Machines from a number", "What `demo` works on, by its words alone.", ("armcaps_generate", "armcaps_text/Generator")),
+    ("Others", "Definitions of crates that have no place above.", ()),
 )
 # tables: their lines are read beside the manual or Linux, on a page of their own
 TABLES = {
@@ -74,7 +76,7 @@ def subject_of(key):
         for place, (_, _, homes) in enumerate(SUBJECTS):
             if wanted in homes:
                 return place
-    raise LookupError(f"armcaps_tools/theorem.py has no subject for {key[0]}/specs/{key[1]}.antt")
+    return len(SUBJECTS) - 1
 
 
 def block(definition):
@@ -91,6 +93,19 @@ def table(definitions):
         if names:
             shown = ", ".join(names[:3]) + (f" and {len(names) - 3} more" if len(names) > 3 else "")
             yield f"Lines of tables, crates/{crate}/specs/{file}.antt and {page}: {shown}.\n\n"
+
+
+def types_of(definitions):
+    """The types of the code that definitions name, with their files."""
+    found = {}
+    for one in definitions:
+        for crate, place, name in one.cites:
+            kind, *modules = place.split(".")
+            if kind == "declared" and "TheVariants" not in modules:
+                found[name, crate] = f"crates/{crate}/src/{'/'.join(modules[:-1])}.rt"
+    yield "## Types of the code\n\nEnums and structs that definitions name, with their variants and fields where they stand.\n\n"
+    for (name, _), path in sorted(found.items()):
+        yield f"- `{name}`: {path}\n"
 
 
 def page(citations):
@@ -111,3 +126,4 @@ def page(citations):
             yield f"## {title}\n\n{about}\n\n"
             yield from map(block, here)
             yield from table(rows)
+    yield from types_of(told.values())

@@ -5,6 +5,7 @@ import tempfile
 import unittest
 
 import common  # noqa: F401  (the tools' folder is found by it)
+from armcaps_tools import theorem
 from armcaps_tools.contracts import Citations, definitions_of
 
 SPECS = """-- What users see.
@@ -75,6 +76,11 @@ class Reader(unittest.TestCase):
         citations = Citations(self.top)
         believed = {name for _, _, name in citations.closure(citations.calls)}
         self.assertEqual(believed, {"user_words", "user_word", "used"})
+
+    def test_what_a_definition_rests_on_follows_it(self):
+        found = theorem.in_order(Citations(self.top), ("one", "Users", "user_words"))
+        self.assertEqual([one.name for one in found.values()], ["user_words", "user_word", "used"])
+        self.assertEqual(theorem.lines_of(found["one", "Users", "used"])[1:], ["used 0 = 0", "used n = n"])
 
 
 if __name__ == "__main__":
