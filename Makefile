@@ -10,14 +10,16 @@ BINDIR ?= $(PREFIX)/bin
 DATADIR ?= $(PREFIX)/share
 MANDIR ?= $(DATADIR)/man
 DOCDIR ?= $(DATADIR)/doc/armcaps
+BASHDIR ?= $(DATADIR)/bash-completion/completions
+ZSHDIR ?= $(DATADIR)/zsh/site-functions
 
 VERSION := $(shell cat VERSION)
 PROGRAM := crates/armcaps/out/armcaps
 TOOLS := dump2text explain cmdline-lint kernel2text patch-diff
-PAGES := $(wildcard docs/MACHINE-TEXT.md docs/OVERRIDES.md docs/REPORT.md docs/TRACE.md docs/MRS.md docs/STATUSES.md \
-	docs/FIELDS.md docs/CAPABILITIES.md docs/HWCAPS.md docs/FROM-A-BOARD.md docs/PATCHING.md docs/ALTERNATIVES.md)
-EXAMPLES := $(wildcard examples/*.txt examples/*.report examples/*.trace examples/*.mrs examples/*.status examples/*.err) \
-	examples/README.md
+# the pages for users: not those on how armcaps itself is built and proved
+PAGES := $(filter-out docs/ARCHITECTURE.md docs/DEFINITIONS.md docs/DECISIONS.md docs/THEOREM.md,$(wildcard docs/*.md))
+MANUALS := armcaps $(TOOLS:%=armcaps-%)
+EXAMPLES := $(wildcard examples/*.*)
 DUMPS := $(wildcard examples/dumps/*)
 PATCHING := examples/patching/make-kernel examples/patching/cpucap-defs.h
 # antt and contracts read the definitions of the crates, which an installed copy has not
@@ -26,6 +28,8 @@ SHAPES := $(wildcard tools/armcaps_tools/dumps/*.py)
 TABLES := $(wildcard tools/data/*.tsv)
 IDREGS := $(patsubst %,tools/idregs/%,Makefile idregs.c registers.h virt.c virt-start.S virt.ld go.S)
 LIBRARY := $(DESTDIR)$(DATADIR)/armcaps
+# what is installed can be read by all, whatever the umask; DESTDIR may have a space
+INSTALL := umask 022 && install
 
 all:
 	cd crates/armcaps && rt run -- report < ../../examples/one-core.txt > /dev/null
@@ -50,29 +54,42 @@ check:
 
 install:
 	@test -x $(PROGRAM) || { echo "make install: no $(PROGRAM): run make first" >&2; exit 1; }
-	install -D $(PROGRAM) $(DESTDIR)$(BINDIR)/armcaps
-	install -d $(DESTDIR)$(MANDIR)/man1
-	sed -e "s,@VERSION@,$(VERSION),; s,@DOCDIR@,$(DOCDIR),g" docs/armcaps.1 > $(DESTDIR)$(MANDIR)/man1/armcaps.1
-	install -D -m 644 -t $(DESTDIR)$(DOCDIR) $(PAGES)
-	install -D -m 644 -t $(DESTDIR)$(DOCDIR)/examples $(EXAMPLES)
-	install -D -m 644 -t $(DESTDIR)$(DOCDIR)/examples/dumps $(DUMPS)
-	install -D -t $(DESTDIR)$(DOCDIR)/examples/patching $(PATCHING)
-	install -D -t $(LIBRARY) $(TOOLS:%=tools/%)
-	install -D -m 644 -t $(LIBRARY)/armcaps_tools $(MODULES)
-	install -D -m 644 -t $(LIBRARY)/armcaps_tools/dumps $(SHAPES)
-	install -D -m 644 -t $(LIBRARY)/data $(TABLES)
-	install -m 644 VERSION $(LIBRARY)/VERSION
-	install -D -m 644 -t $(LIBRARY)/idregs $(IDREGS)
-	install -D -t $(LIBRARY)/idregs tools/idregs/build tools/idregs/run
-	for tool in $(TOOLS); do ln -sfr $(LIBRARY)/$$tool $(DESTDIR)$(BINDIR)/armcaps-$$tool; done
+	$(INSTALL) -D $(PROGRAM) "$(DESTDIR)$(BINDIR)/armcaps"
+	$(INSTALL) -d "$(DESTDIR)$(MANDIR)/man1" "$(DESTDIR)$(BASHDIR)"
+	umask 022 && for page in $(MANUALS); do \
+		sed -e "s,@VERSION@,$(VERSION),; s,@DOCDIR@,$(DOCDIR),g" docs/$$page.1 > "$(DESTDIR)$(MANDIR)/man1/$$page.1" || exit 1; \
+	done
+	$(INSTALL) -D -m 644 -t "$(DESTDIR)$(DOCDIR)" $(PAGES)
+	$(INSTALL) -D -m 644 -t "$(DESTDIR)$(DOCDIR)/examples" $(EXAMPLES)
+	$(INSTALL) -D -m 644 -t "$(DESTDIR)$(DOCDIR)/examples/dumps" $(DUMPS)
+	$(INSTALL) -D -t "$(DESTDIR)$(DOCDIR)/examples/patching" examples/patching/make-kernel
+	$(INSTALL) -D -m 644 -t "$(DESTDIR)$(DOCDIR)/examples/patching" $(filter-out %/make-kernel,$(PATCHING))
+	$(INSTALL) -D -t "$(LIBRARY)" $(TOOLS:%=tools/%)
+	$(INSTALL) -D -m 644 -t "$(LIBRARY)/armcaps_tools" $(MODULES)
+	$(INSTALL) -D -m 644 -t "$(LIBRARY)/armcaps_tools/dumps" $(SHAPES)
+	$(INSTALL) -D -m 644 -t "$(LIBRARY)/data" $(TABLES)
+	$(INSTALL) -m 644 VERSION "$(LIBRARY)/VERSION"
+	$(INSTALL) -D -m 644 -t "$(LIBRARY)/idregs" $(IDREGS)
+	$(INSTALL) -D -t "$(LIBRARY)/idregs" tools/idregs/build tools/idregs/run
+	$(INSTALL) -m 644 tools/completion/armcaps.bash "$(DESTDIR)$(BASHDIR)/armcaps"
+	$(INSTALL) -D -m 644 -t "$(DESTDIR)$(ZSHDIR)" tools/completion/_armcaps
+	for tool in $(TOOLS); do \
+		ln -sfr "$(LIBRARY)/$$tool" "$(DESTDIR)$(BINDIR)/armcaps-$$tool" && ln -sf armcaps "$(DESTDIR)$(BASHDIR)/armcaps-$$tool" || exit 1; \
+	done
 
 # what install copied, and the folders of its own that are empty then
 uninstall:
-	rm -f $(DESTDIR)$(BINDIR)/armcaps $(TOOLS:%=$(DESTDIR)$(BINDIR)/armcaps-%) $(DESTDIR)$(MANDIR)/man1/armcaps.1
-	cd $(DESTDIR)$(DOCDIR) && rm -f $(notdir $(PAGES)) $(EXAMPLES) $(DUMPS) $(PATCHING)
-	cd $(LIBRARY) && rm -f VERSION $(TOOLS) $(patsubst tools/%,%,$(MODULES) $(SHAPES) $(TABLES) $(IDREGS)) idregs/build idregs/run
-	rm -rf $(LIBRARY)/armcaps_tools/__pycache__ $(LIBRARY)/armcaps_tools/dumps/__pycache__
-	-rmdir $(LIBRARY)/armcaps_tools/dumps $(LIBRARY)/armcaps_tools $(LIBRARY)/data $(LIBRARY)/idregs $(LIBRARY) $(addprefix $(DESTDIR)$(DOCDIR),/examples/dumps /examples/patching /examples /)
+	for name in $(MANUALS); do \
+		rm -f "$(DESTDIR)$(BINDIR)/$$name" "$(DESTDIR)$(MANDIR)/man1/$$name.1" "$(DESTDIR)$(BASHDIR)/$$name" || exit 1; \
+	done
+	rm -f "$(DESTDIR)$(ZSHDIR)/_armcaps"
+	cd "$(DESTDIR)$(DOCDIR)" && rm -f $(notdir $(PAGES)) $(EXAMPLES) $(DUMPS) $(PATCHING)
+	cd "$(LIBRARY)" && rm -f VERSION $(TOOLS) $(patsubst tools/%,%,$(MODULES) $(SHAPES) $(TABLES) $(IDREGS)) idregs/build idregs/run
+	cd "$(LIBRARY)" && rm -rf armcaps_tools/__pycache__ armcaps_tools/dumps/__pycache__
+	-cd "$(LIBRARY)" && rmdir armcaps_tools/dumps armcaps_tools data idregs
+	-rmdir "$(LIBRARY)"
+	-cd "$(DESTDIR)$(DOCDIR)" && rmdir examples/dumps examples/patching examples
+	-rmdir "$(DESTDIR)$(DOCDIR)"
 
 clean:
 	rm -rf build crates/*/out
