@@ -22,8 +22,8 @@ MANUALS := armcaps $(TOOLS:%=armcaps-%)
 EXAMPLES := $(wildcard examples/*.*)
 DUMPS := $(wildcard examples/dumps/*)
 PATCHING := examples/patching/make-kernel examples/patching/cpucap-defs.h
-# antt and contracts read the definitions of the crates, which an installed copy has not
-MODULES := $(filter-out %/antt.py %/contracts.py,$(wildcard tools/armcaps_tools/*.py))
+# antt, contracts and theorem read the definitions of the crates, which an installed copy has not
+MODULES := $(filter-out %/antt.py %/contracts.py %/theorem.py,$(wildcard tools/armcaps_tools/*.py))
 SHAPES := $(wildcard tools/armcaps_tools/dumps/*.py)
 TABLES := $(wildcard tools/data/*.tsv)
 IDREGS := $(patsubst %,tools/idregs/%,Makefile idregs.c registers.h virt.c virt-start.S virt.ld go.S)
