@@ -23,8 +23,8 @@ boot_core board = core_at board.cores board.boot
 abbrev pub IsCtrPlain : FieldOverrides → Type 0
 IsCtrPlain overrides = (index : ℕ) → index < length (rows_of CtrEl0) → override_of overrides CtrEl0 index ≡ None
 
--- a board of which a machine can be made: the boot core is one of at most 512 cores, each override fits its field, and none is of
--- CTR_EL0
+-- a board of which a machine can be made: the boot core is one of at most 512 cores, each override fits its field,
+-- and none is of CTR_EL0
 pub record IsBoard (board : Board) : Type 0 where
   pub within : board.boot < length board.cores
   pub few : length board.cores ≤ 512

@@ -1,5 +1,5 @@
--- The orders in which cores can come up, go and come back. Which orders a text may have is this project's own. A core that is
--- held back makes its steps like any other: what comes of them is no part of the order.
+-- The orders in which cores can come up, go and come back. Which orders a text may have is this project's own. A core
+-- that is held back makes its steps like any other: what comes of them is no part of the order.
 use Rattle.std.specs.Prelude.{◌==◌, Bool, true, false, not, ◌&&◌, ◌||◌, nat_lt, List, [], ◌∷◌, length, filter_map, Option, Some, None}
 use Rattle.std.specs.List.{list_any}
 use Rattle.std.specs.Option.{option_map_or}
@@ -35,8 +35,8 @@ is_begun_last (Some (Check core)) = true
 is_begun_last (Some (Local core)) = true
 is_begun_last _ = false
 
--- a core with this last step can make the step: a check where it is fresh, a local step after its check, a store after its local
--- step, and it can go where it is up
+-- a core with this last step can make the step: a check where it is fresh, a local step after its check, a store
+-- after its local step, and it can go where it is up
 abbrev pub can_follow : Option Event → Event → Bool
 can_follow last (Check core) = is_fresh_last last
 can_follow last (Local core) = is_checked_last last
@@ -58,10 +58,11 @@ is_wrong_finalise steps event = is_finalise event && (is_final steps || is_some_
 
 -- the step is of no core, or of a core of the board that is not the boot core
 abbrev pub is_of_secondary : Board → Event → Bool
-is_of_secondary board event = option_map_or (λ core. nat_lt core (length board.cores) && not (core == board.boot)) (core_of event) true
+is_of_secondary board event =
+    option_map_or (λ core. nat_lt core (length board.cores) && not (core == board.boot)) (core_of event) true
 
--- the step may come after these: it is one of a secondary core whose turn it is, or the one finalisation, where no core is on
--- its way up
+-- the step may come after these: it is one of a secondary core whose turn it is, or the one finalisation, where no
+-- core is on its way up
 unfoldable pub is_next : Board → List Event → Event → Bool
 is_next board steps event = is_of_secondary board event && is_in_turn steps event && not (is_wrong_finalise steps event)
 

@@ -4,8 +4,8 @@ ghost use Rattle.armcaps_board.specs.Board.{boot_core, core_at};
 use armcaps_tables::{CoreRegs, Overrides};
 use std::marker::Model;
 
-/// What is brought up: the cores, the number of the boot core, and the values that stand in for fields. Contracts see a
-/// record of the list of the cores and these two.
+/// What is brought up: the cores, the number of the boot core, and the values that stand in for fields. Contracts see
+/// a record of the list of the cores and these two.
 #[derive(Drop)]
 pub struct Board {
     pub cores: Vec<CoreRegs>,

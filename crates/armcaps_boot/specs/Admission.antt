@@ -1,5 +1,6 @@
--- Which cores are admitted by steps, the newest first, and which are held back, and why (Linux, arch/arm64/kernel/smp.c,
--- `secondary_start_kernel`, and arch/arm64/kernel/cpufeature.c, `check_local_cpu_capabilities`).
+-- Which cores are admitted by steps, the newest first, and which are held back, and why (Linux,
+-- arch/arm64/kernel/smp.c, `secondary_start_kernel`, and arch/arm64/kernel/cpufeature.c,
+-- `check_local_cpu_capabilities`).
 use Rattle.std.specs.Prelude.{ℕ, ◌==◌, Bool, false, not, ◌&&◌, ◌||◌, if◌then◌else◌, List, [], ◌∷◌, Option, Some, None, is_none, is_some}
 use Rattle.std.specs.List.{list_any}
 use Rattle.std.specs.Option.{option_or}
@@ -29,7 +30,8 @@ was_verified number (event ∷ steps) = was_verified number steps || (is_local_o
 
 -- one of the early cores: the boot core, and each core that came early and has no cause at its check
 abbrev pub is_among_early : Board → List Event → ℕ → Bool
-is_among_early board steps number = (number == board.boot) || (came_early number steps && is_none (cause_at_check board number))
+is_among_early board steps number =
+    (number == board.boot) || (came_early number steps && is_none (cause_at_check board number))
 
 -- the early cores after these steps, in rising number
 abbrev pub early_cores_after : Board → List Event → List Core
@@ -38,7 +40,8 @@ early_cores_after board steps = chosen (is_among_early board steps) board.cores
 -- one of the late cores: it came, not early, and has neither a cause at its check nor one at its verification
 abbrev pub is_among_late : Board → List Event → ℕ → Bool
 is_among_late board steps number =
-    not (number == board.boot) && has_come number steps && not (came_early number steps) && is_none (cause_at_check board number)
+    not (number == board.boot) && has_come number steps && not (came_early number steps)
+    && is_none (cause_at_check board number)
     && is_none (cause_at_verification board (early_cores_after board steps) number)
 
 -- one of the cores that were ever admitted: an early or a late one
@@ -49,8 +52,8 @@ is_among_admitted board steps number = is_among_early board steps number || is_a
 abbrev pub admitted_cores_after : Board → List Event → List Core
 admitted_cores_after board steps = chosen (is_among_admitted board steps) board.cores
 
--- why a core that has made a step is held back: its cause at the check, or where it is verified and did not come early its cause
--- at verification
+-- why a core that has made a step is held back: its cause at the check, or where it is verified and did not come
+-- early its cause at verification
 unfoldable pub held_back : Board → List Event → ℕ → Option Cause
 held_back board steps number =
     if is_some (last_step number steps)

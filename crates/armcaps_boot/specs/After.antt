@@ -43,8 +43,8 @@ state_of board steps number =
 unfoldable pub states_after : Board → List Event → List CoreState
 states_after board steps = map (state_of board steps) (range_with_len 0 (length board.cores))
 
--- what a step is answered whose core is held back for these causes, if for any, before the step and after it: held before, it is
--- skipped; held only now, it is parked or has stopped the machine; else the step is done
+-- what a step is answered whose core is held back for these causes, if for any, before the step and after it: held
+-- before, it is skipped; held only now, it is parked or has stopped the machine; else the step is done
 abbrev pub reply_from : Option Cause → Option Cause → Reply
 reply_from (Some cause) after = Skipped
 reply_from None (Some cause) = if stops_machine cause then Panicked cause else Parked cause
@@ -53,7 +53,8 @@ reply_from None None = Done
 -- what a step after these is answered; finalisation, which is of no core, is done
 unfoldable pub reply_of : Board → List Event → Event → Reply
 reply_of board steps event =
-    option_map_or (λ core. reply_from (held_back board steps core) (held_back board (event ∷ steps) core)) (core_of event) Done
+    option_map_or (λ core. reply_from (held_back board steps core) (held_back board (event ∷ steps) core))
+    (core_of event) Done
 
 -- the machine is that of the board after these steps
 pub record IsAfter (board : Board) (steps : List Event) (world : World) : Type 0 where

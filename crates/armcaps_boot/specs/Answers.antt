@@ -19,7 +19,8 @@ use Rattle.armcaps_boot.specs.World.{World, state_at, early_cores}
 abbrev pub Answer : Type 0
 Answer = Result Reply StepRefused
 
--- a step that a core makes which is now held back for this cause, if for any: done, or the core is parked or stops the machine
+-- a step that a core makes which is now held back for this cause, if for any: done, or the core is parked or stops
+-- the machine
 abbrev pub judged : Option Cause → Answer
 judged None = Ok Done
 judged (Some cause) = if stops_machine cause then Ok (Panicked cause) else Ok (Parked cause)
@@ -58,7 +59,8 @@ abbrev pub finalise_answer : Bool → Option ℕ → Answer
 finalise_answer final None = if final then Err AlreadyFinal else Ok Done
 finalise_answer final (Some core) = if final then Err AlreadyFinal else Err (InFlight core)
 
--- the cause that a core has at its local step: none before finalisation, and then its cause at verification, over the early cores
+-- the cause that a core has at its local step: none before finalisation, and then its cause at verification, over the
+-- early cores
 abbrev pub cause_at_local : World → ℕ → Option Cause
 cause_at_local world number =
     if world.final then cause_at_verification world.board (early_cores world.board world.states) number else None
@@ -66,13 +68,15 @@ cause_at_local world number =
 -- the answer to a step of the core of this number, which has to be one of the machine's and not the boot core
 abbrev pub numbered : World → ℕ → Answer → Answer
 numbered world number answer =
-    if nat_lt number (length world.board.cores) then (if number == world.board.boot then Err IsBootCore else answer) else Err NoCore
+    if nat_lt number (length world.board.cores)
+    then (if number == world.board.boot then Err IsBootCore else answer) else Err NoCore
 
 -- the answer to a step while nothing has stopped the machine
 abbrev pub live_answer : World → Event → Answer
 live_answer world (Check number) =
     numbered world number (check_answer (cause_at_check world.board number) (state_at world.states number))
-live_answer world (Local number) = numbered world number (local_answer (cause_at_local world number) (state_at world.states number))
+live_answer world (Local number) =
+    numbered world number (local_answer (cause_at_local world number) (state_at world.states number))
 live_answer world (Store number) = numbered world number (store_answer (state_at world.states number))
 live_answer world (Offline number) = numbered world number (offline_answer (state_at world.states number))
 live_answer world Finalise = finalise_answer world.final (first_in_flight world.states)

@@ -27,8 +27,8 @@ use Rattle.armcaps_boot.specs.World.{World, state_at, early_cores}
 abbrev pub with_state : World → ℕ → CoreState → World
 with_state world number state = record world { states = slice_set world.states number state }
 
--- a core that is admitted, by whether finalisation was done and by as what it was admitted before: a returning core stays early
--- or late; a new one is late exactly after finalisation
+-- a core that is admitted, by whether finalisation was done and by as what it was admitted before: a returning core
+-- stays early or late; a new one is late exactly after finalisation
 abbrev pub admitted_after : Bool → Past → CoreState
 admitted_after final was = Admitted (if is_admitted_past was then is_late_past was else final)
 
@@ -52,13 +52,15 @@ updated_world world number =
       noted = if world.final then world.noted else noted_with world number;
     }
 
--- after the store of a core: its words are merged into the system's, and before finalisation its vector lengths are counted in
+-- after the store of a core: its words are merged into the system's, and before finalisation its vector lengths are
+-- counted in
 abbrev pub stored_world : World → ℕ → World
 stored_world world number =
     record (with_state world number (admitted_after world.final (past_of (state_at world.states number)))) {
       system = merged_words world.system (core_at world.board.cores number);
       common_lengths =
-          if world.final then world.common_lengths else bit_and world.common_lengths (core_at world.board.cores number).lengths;
+          if world.final then world.common_lengths
+          else bit_and world.common_lengths (core_at world.board.cores number).lengths;
     }
 
 -- after a core went
@@ -67,7 +69,10 @@ left_world world number = with_state world number (gone_after (past_of (state_at
 
 -- the hwcaps that are advertised over these early cores, as the two words that programs see
 abbrev pub hwcaps_over : Board → List Core → HwSet
-hwcaps_over board early = record { hwcap = hwcap_word (hwcap_advertised board early); hwcap2 = hwcap2_word (hwcap_advertised board early) }
+hwcaps_over board early = record {
+  hwcap = hwcap_word (hwcap_advertised board early);
+  hwcap2 = hwcap2_word (hwcap_advertised board early);
+}
 
 -- what the early cores have in common is decided for good
 abbrev pub final_world : World → World
@@ -77,7 +82,8 @@ final_world world = record world {
   hwcaps = hwcaps_over world.board (early_cores world.board world.states);
   final_ctr = word_at world.system CtrEl0;
   lengths =
-      if capability_enabled world.board (early_cores world.board world.states) sve_capability then world.common_lengths else 0;
+      if capability_enabled world.board (early_cores world.board world.states) sve_capability
+      then world.common_lengths else 0;
 }
 
 -- after a step that is done

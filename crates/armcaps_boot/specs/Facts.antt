@@ -21,15 +21,18 @@ use Rattle.armcaps_boot.specs.World.{World, state_at, admitted_cores, early_core
 -- the early cores, and those whose own capabilities were noted and that haven't made their store yet
 abbrev pub noted_cores : World → List Core
 noted_cores world =
-    chosen (λ number. is_early (state_at world.states number) || is_updated (state_at world.states number)) world.board.cores
+    chosen (λ number. is_early (state_at world.states number) || is_updated (state_at world.states number))
+    world.board.cores
 
--- a core is parked for this cause, by its cause at the check and its cause at verification: it is the first, and one that does
--- not stop the machine; or there is no first, finalisation was done, and it is the second
+-- a core is parked for this cause, by its cause at the check and its cause at verification: it is the first, and one
+-- that does not stop the machine; or there is no first, finalisation was done, and it is the second
 abbrev pub IsParkedFor : Bool → Option Cause → Option Cause → Cause → Type 0
 IsParkedFor final at_check at_verification cause =
-    ((at_check ≡ Some cause) × (stops_machine cause ≡ false)) ⊎ ((at_check ≡ None) × (final ≡ true) × (at_verification ≡ Some cause))
+    ((at_check ≡ Some cause) × (stops_machine cause ≡ false))
+    ⊎ ((at_check ≡ None) × (final ≡ true) × (at_verification ≡ Some cause))
 
--- what holds of a core in this state, by whether finalisation was done, and by its causes at the check and at verification
+-- what holds of a core in this state, by whether finalisation was done, and by its causes at the check and at
+-- verification
 pub record IsStateOf (final : Bool) (at_check at_verification : Option Cause) (state : CoreState) : Type 0 where
   pub passed : has_passed state ≡ true → at_check ≡ None
   pub verified : final ≡ true → is_admitted state ≡ true → at_verification ≡ None
@@ -49,11 +52,12 @@ pub record IsHalt (halted : Option Halt) (states : List CoreState) : Type 0 wher
   pub by : (halt : Halt) → halted ≡ Some halt → state_at states halt.core ≡ Panicked halt.cause
   pub only : halted ≡ None → (number : ℕ) (cause : Cause) → state_at states number ≡ Panicked cause → ⊥
 
--- before finalisation the local capabilities of the cores that came are noted, those of boot scope are enabled, no hwcap and no
--- vector length is told, and the lengths that all early cores have are kept
+-- before finalisation the local capabilities of the cores that came are noted, those of boot scope are enabled, no
+-- hwcap and no vector length is told, and the lengths that all early cores have are kept
 pub record IsGathering (world : World) : Type 0 where
   pub noted : world.noted
-      ≡ numbers capability_count (λ n. is_local_scope n && list_any (λ core. has_capability world.board core n) (noted_cores world))
+      ≡ numbers capability_count
+      (λ n. is_local_scope n && list_any (λ core. has_capability world.board core n) (noted_cores world))
   pub enabled : world.enabled
       ≡ numbers capability_count (λ n. is_boot_scope n && has_capability world.board (boot_core world.board) n)
   pub hwcaps : world.hwcaps ≡ record { hwcap = 0; hwcap2 = 0 }
@@ -63,9 +67,11 @@ pub record IsGathering (world : World) : Type 0 where
 
 -- after finalisation capabilities, hwcaps, the word of CTR_EL0 and vector lengths are those over the early cores
 pub record IsDecided (world : World) : Type 0 where
-  pub enabled : world.enabled ≡ numbers capability_count (capability_enabled world.board (early_cores world.board world.states))
+  pub enabled : world.enabled
+      ≡ numbers capability_count (capability_enabled world.board (early_cores world.board world.states))
   pub hwcaps : world.hwcaps ≡ hwcaps_over world.board (early_cores world.board world.states)
-  pub final_ctr : world.final_ctr ≡ word_at (system_words world.board.overrides (early_cores world.board world.states)) CtrEl0
+  pub final_ctr : world.final_ctr
+      ≡ word_at (system_words world.board.overrides (early_cores world.board world.states)) CtrEl0
   pub lengths : (length : ℕ) → has_length world.lengths length
       ≡ is_system_length world.board (early_cores world.board world.states) length
 

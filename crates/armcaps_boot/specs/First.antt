@@ -14,7 +14,8 @@ use Rattle.armcaps_boot.specs.World.{World}
 abbrev pub first_states : ℕ → ℕ → List CoreState
 first_states count boot = slice_set (replicate count Absent) boot (Admitted false)
 
--- the system is the boot core's alone: its words, the local capabilities that it has, those of boot scope, and its vector lengths
+-- the system is the boot core's alone: its words, the local capabilities that it has, those of boot scope, and its
+-- vector lengths
 abbrev pub first_world : Board → World
 first_world board = record {
   board = board;

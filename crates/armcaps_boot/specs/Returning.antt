@@ -21,8 +21,10 @@ is_checked _ = false
 -- whether a step is the next one of a core that was admitted, went, and comes back
 abbrev pub comes_back : World → Event → Bool
 comes_back world (Check number) = is_gone (state_at world.states number)
-comes_back world (Local number) = is_checked (state_at world.states number) && is_admitted (state_at world.states number)
-comes_back world (Store number) = is_updated (state_at world.states number) && is_admitted (state_at world.states number)
+comes_back world (Local number) =
+    is_checked (state_at world.states number) && is_admitted (state_at world.states number)
+comes_back world (Store number) =
+    is_updated (state_at world.states number) && is_admitted (state_at world.states number)
 comes_back world _ = false
 
 -- what the system is stays as it was

@@ -1,5 +1,5 @@
--- What the code asks: the same as the definitions, of what it keeps, with the cache type compared with that of the present
--- system word.
+-- What the code asks: the same as the definitions, of what it keeps, with the cache type compared with that of the
+-- present system word.
 use Rattle.std.specs.Prelude.{ℕ, Bool, List, Option, true, false, not, if◌then◌else◌}
 use Rattle.armcaps_tables.specs.Core.{Core}
 use Rattle.armcaps_board.specs.Board.{Board, boot_core}
@@ -20,8 +20,8 @@ in_scope boot number = if boot then is_boot_scope number else not (is_boot_scope
 abbrev pub own_scope : Bool → ℕ → Bool
 own_scope boot number = if boot then is_boot_scope number else is_local_scope number
 
--- whether a capability is enabled by what was gathered before finalisation: the sets of those of boot scope and of those noted,
--- and the words of the system registers
+-- whether a capability is enabled by what was gathered before finalisation: the sets of those of boot scope and of
+-- those noted, and the words of the system registers
 unfoldable pub enabled_by : ℕ → ℕ → List ℕ → ℕ → Bool
 enabled_by enabled noted words number =
     if is_boot_scope number then holds enabled number

@@ -9,9 +9,9 @@ use Rattle.armcaps_boot.specs.declared.halt.Halt.{Halt}
 use Rattle.armcaps_boot.specs.Choosing.{chosen}
 use Rattle.armcaps_boot.specs.States.{is_admitted, is_early}
 
--- the board, the words of the system registers, each core's state, who stopped the machine, whether finalisation was done, the
--- local capabilities noted so far, the capabilities enabled, the hwcaps, the word of CTR_EL0 at finalisation (0 before), the
--- vector lengths that all early cores have, and those told to programs
+-- the board, the words of the system registers, each core's state, who stopped the machine, whether finalisation was
+-- done, the local capabilities noted so far, the capabilities enabled, the hwcaps, the word of CTR_EL0 at
+-- finalisation (0 before), the vector lengths that all early cores have, and those told to programs
 pub record World : Type 0 where
   pub board : Board
   pub system : List ℕ

@@ -53,8 +53,8 @@ impl Boot {
     ghost use Rattle.armcaps_boot.specs.Safety.{core_has, is_enabled, is_enabled_at_first, WasAdmitted};
     ghost use Rattle.armcaps_boot.specs.World.{admitted_cores, early_cores};
 
-    /// A machine before its first step: the boot core is admitted, and no other core is there. All memory that the machine
-    /// ever takes is taken here. `boot` is the boot core's number; no field of CTR_EL0 may be overridden.
+    /// A machine before its first step: the boot core is admitted, and no other core is there. All memory that the
+    /// machine ever takes is taken here. `boot` is the boot core's number; no field of CTR_EL0 may be overridden.
     pub fn new(
         alloc: Global,
         cores: Vec<CoreRegs>,
@@ -87,15 +87,16 @@ impl Boot {
         }
     }
 
-    /// Makes one step. It takes no memory, and looks at a fixed number of rows of the tables. A core that was admitted, went
-    /// and comes back is held back at none of its steps, and leaves the system as it is.
+    /// Makes one step. It takes no memory, and looks at a fixed number of rows of the tables. A core that was
+    /// admitted, went and comes back is held back at none of its steps, and leaves the system as it is.
     pub fn step(&mut self, event: Event) -> Result<Reply, StepRefused>
         ensures answer { result ≡ answer_of self.old event }
         ensures after { self.new ≡ world_after self.old event result }
         ensures refused { OnErr result (self.new ≡ self.old) }
         ensures skipped { result ≡ Ok Reply.Skipped → self.new ≡ self.old }
         ensures facts { Facts self.new }
-        ensures back { self.old.halted ≡ None → comes_back self.old event ≡ true → (result ≡ Ok Reply.Done) × KeepsSystem self.old self.new }
+        ensures back { self.old.halted ≡ None → comes_back self.old event ≡ true
+            → (result ≡ Ok Reply.Done) × KeepsSystem self.old self.new }
     {
         self.machine.step(event)
     }
@@ -138,7 +139,8 @@ impl Boot {
     /// The system registers: over the cores that were ever admitted.
     pub fn system(&self) -> &System
         ensures system { result.now ≡ self.now.system }
-        ensures stands { IsSystemOf self.now.board.overrides (admitted_cores self.now.board self.now.states) result.now }
+        ensures stands {
+            IsSystemOf self.now.board.overrides (admitted_cores self.now.board self.now.states) result.now }
     {
         &self.machine.system
     }
@@ -164,9 +166,9 @@ impl Boot {
         self.machine.is_final
     }
 
-    /// Whether the capability of this number is enabled: before finalisation those of boot scope alone, and never one from
-    /// the number of capabilities on. Each core that was ever admitted has each system feature that is enabled, and each
-    /// workaround that such a core needs is enabled.
+    /// Whether the capability of this number is enabled: before finalisation those of boot scope alone, and never one
+    /// from the number of capabilities on. Each core that was ever admitted has each system feature that is enabled,
+    /// and each workaround that such a core needs is enabled.
     pub fn enabled(&self, number: u16) -> bool
         ensures member { result ≡ is_in self.now.enabled number }
         ensures before { self.now.final ≡ false → result ≡ is_enabled_at_first self.now number }
@@ -182,7 +184,7 @@ impl Boot {
 
     /// The hwcaps: none before finalisation, and then those over the early cores.
     pub fn hwcaps(&self) -> HwSet
-        ensures kept { result ≡ self.now.hwcaps }
+        ensures value { result ≡ self.now.hwcaps }
         ensures before { self.now.final ≡ false → result ≡ record { hwcap = 0; hwcap2 = 0 } }
         ensures after { self.now.final ≡ true
             → result ≡ hwcaps_over self.now.board (early_cores self.now.board self.now.states) }
@@ -190,10 +192,11 @@ impl Boot {
         self.machine.hwcaps
     }
 
-    /// The word of CTR_EL0 that the system had at finalisation, over the early cores, and before that the present one.
+    /// The word of CTR_EL0 that the system had at finalisation, over the early cores, and before that the present
+    /// one.
     pub fn final_ctr(&self) -> u64
         ensures before { self.now.final ≡ false → result ≡ word_at self.now.system CtrEl0 }
-        ensures kept { self.now.final ≡ true → result ≡ self.now.final_ctr }
+        ensures value { self.now.final ≡ true → result ≡ self.now.final_ctr }
         ensures after { self.now.final ≡ true → result
             ≡ word_at (system_words self.now.board.overrides (early_cores self.now.board self.now.states)) CtrEl0 }
     {
@@ -204,13 +207,13 @@ impl Boot {
         }
     }
 
-    /// The vector lengths told to programs, bit 0 for 128 bits: none before finalisation, and then those that every early
-    /// core has, where SVE is enabled.
+    /// The vector lengths told to programs, bit 0 for 128 bits: none before finalisation, and then those that every
+    /// early core has, where SVE is enabled.
     pub fn vector_lengths(&self) -> u16
-        ensures kept { result ≡ self.now.lengths }
+        ensures value { result ≡ self.now.lengths }
         ensures before { self.now.final ≡ false → result ≡ 0 }
-        ensures after { self.now.final ≡ true → (length : ℕ)
-            → has_length result length ≡ is_system_length self.now.board (early_cores self.now.board self.now.states) length }
+        ensures after { self.now.final ≡ true → (length : ℕ) → has_length result length
+            ≡ is_system_length self.now.board (early_cores self.now.board self.now.states) length }
     {
         self.machine.lengths
     }

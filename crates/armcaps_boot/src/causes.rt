@@ -80,8 +80,8 @@ pub(crate) fn cause_at_verification(
     }
 }
 
-// The first capability of boot scope, or else of another, with which a core is in conflict. Its cache type is compared with
-// that of `ctr`.
+// The first capability of boot scope, or else of another, with which a core is in conflict. Its cache type is
+// compared with that of `ctr`.
 fn first_conflict(
     of_boot_scope: bool,
     enabled: &CapSet,

@@ -11,8 +11,8 @@ use armcaps_caps::{CAPABILITIES, CapSet, has, is_boot_scope, is_local_scope, sys
 use armcaps_sanit::System;
 use armcaps_tables::CoreRegs;
 
-/// A set of capabilities, with those of boot scope, or else the local ones, that a core has. Its cache type is compared with
-/// that of `ctr`.
+/// A set of capabilities, with those of boot scope, or else the local ones, that a core has. Its cache type is
+/// compared with that of `ctr`.
 pub(crate) fn with_own(
     given: CapSet,
     of_boot_scope: bool,
@@ -22,7 +22,8 @@ pub(crate) fn with_own(
 ) -> CapSet
     requires { board.now.boot < length board.now.cores }
     ensures { (n : ℕ) → n < capability_count
-        → holds result n ≡ (holds given n || (asked.own_scope of_boot_scope n && asked.has_by board.now ctr core.now n)) }
+        → holds result n
+        ≡ (holds given n || (asked.own_scope of_boot_scope n && asked.has_by board.now ctr core.now n)) }
 {
     let mut set = given;
     for number in 0..CAPABILITIES {
@@ -47,8 +48,8 @@ fn is_own(number: u16, of_boot_scope: bool, board: &Board, core: &CoreRegs, ctr:
     in_scope && has(number, board.boot_core(), core, &board.overrides, ctr)
 }
 
-/// The capabilities that are enabled at finalisation: those of boot scope that were enabled before, the local ones that were
-/// noted, and those that all cores of the system have together.
+/// The capabilities that are enabled at finalisation: those of boot scope that were enabled before, the local ones
+/// that were noted, and those that all cores of the system have together.
 pub(crate) fn decided(enabled: &CapSet, noted: &CapSet, system: &System) -> CapSet
     ensures { (n : ℕ) → n < capability_count → holds result n ≡ asked.enabled_by enabled.now noted.now system.now n }
 {

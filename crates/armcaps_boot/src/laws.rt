@@ -34,8 +34,8 @@ pub fn steps_are_answered()
 {}
 
 /// The early, late and admitted cores of steps in order are those whose states say so. A core is admitted after the
-/// first of these steps exactly where it is the boot core, or it is admitted by all of them and its first store stands
-/// among the first.
+/// first of these steps exactly where it is the boot core, or it is admitted by all of them and its first store
+/// stands among the first.
 pub fn sets_are_those_of_the_steps()
     ensures is_early { (board : Board) (steps : List Step) (core : ℕ)
         → in_order board steps ≡ true → core < length board.cores
@@ -56,9 +56,9 @@ pub fn sets_are_those_of_the_steps()
         ≡ ((core == board.boot) || (has_come core steps && is_among_admitted board (later ++ steps) core)) }
 {}
 
-/// Once all steps are made, none of which stopped the machine, each system feature that is enabled is had by each core
-/// that was ever admitted, each workaround that such a core needs is enabled, each core that made a step is admitted or
-/// parked, and each parked core is parked by its first cause.
+/// Once all steps are made, none of which stopped the machine, each system feature that is enabled is had by each
+/// core that was ever admitted, each workaround that such a core needs is enabled, each core that made a step is
+/// admitted or parked, and each parked core is parked by its first cause.
 pub fn documents_are_safe()
     ensures { (board : Board) (steps : List Step) → IsBoard board → in_order board steps ≡ true
         → is_complete steps ≡ true → halt_of board steps ≡ None → IsSafe board steps }

@@ -251,8 +251,8 @@ fn a_core_under_an_override(rt: HostRuntime) -> Result<(), Fail> {
     Ok(())
 }
 
-/// The registers of cores 0 to 2 in one register, steps with their answers, the system's word after them, and what became
-/// of core 1.
+/// The registers of cores 0 to 2 in one register, steps with their answers, the system's word after them, and what
+/// became of core 1.
 type Order<'a> = (
     SysReg,
     [u64; 3],

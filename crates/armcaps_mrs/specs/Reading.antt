@@ -1,6 +1,6 @@
 -- What programs of users get that read an ID register (Linux, arch/arm64/kernel/cpufeature.c, `is_emulated`,
--- `emulate_id_reg` and `emulate_sys_reg`). Which registers these are is this project's own: Linux emulates CRm 2 and 3 too,
--- the AArch32 ID registers and MVFR, and CRm 1 to 3 are left out here.
+-- `emulate_id_reg` and `emulate_sys_reg`). Which registers these are is this project's own: Linux emulates CRm 2 and
+-- 3 too, the AArch32 ID registers and MVFR, and CRm 1 to 3 are left out here.
 use Rattle.std.specs.Prelude.{ℕ, ◌/◌, ◌%◌, ◌^◌, ◌==◌, ◌&&◌, ◌||◌, Bool, if◌then◌else◌, nat_le, Option, Some, None, Result, Ok, Err, slice_get}
 use Rattle.std.specs.Option.{option_and_then, option_map}
 use Rattle.armcaps_enc.specs.declared.mrs_word.MrsWord.{MrsWord}
@@ -19,8 +19,8 @@ use Rattle.armcaps_mrs.specs.declared.refused.UserRefused.{UserRefused}
 use Rattle.armcaps_mrs.specs.declared.refused.UserRefused.TheVariants.{NotAdmitted, Undefined}
 use Rattle.armcaps_mrs.specs.declared.read.UserRead.{UserRead}
 
--- whether a read of the register with these CRn, CRm and op2 is emulated: CRn is 0, and CRm is 4 to 7, or else 0 where op2
--- is that of MIDR, MPIDR or REVIDR
+-- whether a read of the register with these CRn, CRm and op2 is emulated: CRn is 0, and CRm is 4 to 7, or else 0
+-- where op2 is that of MIDR, MPIDR or REVIDR
 abbrev pub is_emulated : ℕ → ℕ → ℕ → Bool
 is_emulated crn crm op2 =
     crn == 0 && ((nat_le 4 crm && nat_le crm 7) || (crm == 0 && (op2 == 0 || op2 == 5 || op2 == 6)))
@@ -29,13 +29,14 @@ is_emulated crn crm op2 =
 abbrev pub is_emulated_number : ℕ → Bool
 is_emulated_number id = is_emulated (id / 2 ^ 12 % 2 ^ 4) (id / 2 ^ 8 % 2 ^ 4) (id / 2 ^ 5 % 2 ^ 3)
 
--- what a core reads from a register: its own MIDR, a fixed MPIDR and REVIDR, what all cores that were ever admitted show
--- to users of a register that has fields, and 0 where there is no register
+-- what a core reads from a register: its own MIDR, a fixed MPIDR and REVIDR, what all cores that were ever admitted
+-- show to users of a register that has fields, and 0 where there is no register
 unfoldable pub value_read : Findings → ℕ → Option SysReg → ℕ
 value_read found core (Some MidrEl1) = core_word (core_at found.board.cores core) MidrEl1
 value_read found core (Some MpidrEl1) = 2 ^ 31
 value_read found core (Some RevidrEl1) = 0
-value_read found core (Some register) = user_word found.board.overrides (admitted_cores found.board found.states) register
+value_read found core (Some register) =
+    user_word found.board.overrides (admitted_cores found.board found.states) register
 value_read found core None = 0
 
 -- what an instruction word reads, where its read is emulated

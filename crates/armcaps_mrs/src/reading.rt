@@ -7,9 +7,9 @@ use crate::refused::UserRefused;
 use armcaps_boot::{Boot, CoreState};
 use armcaps_enc::{MrsWord, SysReg};
 
-/// What an instruction word that a program of a user runs on a core reads, before finalisation or after it. The core is
-/// judged first: one that doesn't run is refused, whatever the word. The word is refused where it is no MRS of a register
-/// whose reads are emulated.
+/// What an instruction word that a program of a user runs on a core reads, before finalisation or after it. The core
+/// is judged first: one that doesn't run is refused, whatever the word. The word is refused where it is no MRS of a
+/// register whose reads are emulated.
 ///
 /// Source: Linux, arch/arm64/kernel/cpufeature.c, `do_emulate_mrs`.
 #[tactic(auto, unfolding(crate::specs::Reading::user_read))]
