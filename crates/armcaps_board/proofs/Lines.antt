@@ -12,10 +12,10 @@ use Rattle.armcaps_board.specs.declared.step_line.StepLine.TheVariants.{Check, L
 use Rattle.armcaps_board.specs.Board.{Board}
 use Rattle.armcaps_board.specs.Order.{can_follow, in_order, is_in_turn, is_next, is_of_secondary, is_wrong_finalise}
 use Rattle.armcaps_board.specs.Steps.{events_of, first_event, history, is_final, is_finalise, is_step_of, last_event, last_step}
-use Rattle.armcaps_board.proofs.Bools.{both}
+use Rattle.std.proofs.lemmas.Bool.{and_from}
 use Rattle.armcaps_board.proofs.Turns.{last-own, next_by, secondary_of}
 
--- the steps of lines, both with the newest first
+-- the steps of lines, and_from with the newest first
 abbrev back : List StepLine → List Event
 back [] = []
 back (line ∷ lines) = reverse (events_of line) ++ back lines
@@ -137,4 +137,4 @@ pub order-push : (board : Board) (lines : List StepLine) (line : StepLine) → i
     → is_in_turn (history lines) (first_event line) ≡ true → is_wrong_finalise (history lines) (first_event line) ≡ false
     → in_order board (history lines) ≡ true → in_order board (history (lines ++ line ∷ [])) ≡ true
 order-push board lines line secondary turn final order =
-    order-line board lines line ∙ both _ _ (next_by board (history lines) (first_event line) secondary turn final) order
+    order-line board lines line ∙ and_from _ _ (next_by board (history lines) (first_event line) secondary turn final) order

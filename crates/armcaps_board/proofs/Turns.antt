@@ -9,7 +9,7 @@ use Rattle.armcaps_board.specs.declared.event.Event.{Event}
 use Rattle.armcaps_board.specs.Board.{Board}
 use Rattle.armcaps_board.specs.Order.{can_follow, in_order, is_begun_last, is_in_turn, is_next, is_of_secondary, is_some_in_flight, is_wrong_finalise}
 use Rattle.armcaps_board.specs.Steps.{core_of, is_final, is_finalise, is_step_of, last_step}
-use Rattle.armcaps_board.proofs.Bools.{and_left, and_right, both, left_false, right_false, not_true, not_false, or_left, or_right}
+use Rattle.std.proofs.lemmas.Bool.{and_from, and_parts, not-true, not_from_false, or_left, or_parts, or_right}
 
 -- what a step leaves of the last step of a core
 pub last-other : (k : ℕ) (e : Event) (p : List Event) → is_step_of k e ≡ false → last_step k (e ∷ p) ≡ last_step k p
@@ -27,32 +27,32 @@ pub record IsTurn (board : Board) (p : List Event) (e : Event) (k : ℕ) : Type 
 pub turn_of : (board : Board) (p : List Event) (e : Event) (k : ℕ) → core_of e ≡ Some k → is_next board p e ≡ true → IsTurn board p e k
 unfolding is_next
 turn_of board p e k of next = record {
-  within = (Decides-ltb k (length board.cores)).0 (and_left (nat_lt k (length board.cores)) (not (k == board.boot)) secondary);
-  not_boot = not_from_Decides (k == board.boot) (Decides-eqb k board.boot) (not_true (k == board.boot) (and_right (nat_lt k (length board.cores)) (not (k == board.boot)) secondary));
+  within = (Decides-ltb k (length board.cores)).0 ((and_parts (nat_lt k (length board.cores)) (not (k == board.boot)) secondary).0);
+  not_boot = not_from_Decides (k == board.boot) (Decides-eqb k board.boot) (not-true (k == board.boot) ((and_parts (nat_lt k (length board.cores)) (not (k == board.boot)) secondary).1));
   follows = sym (ap (λ (o : Option ℕ). option_map_or (λ core. can_follow (last_step core p) e) o true) of) ∙ turn;
 } where
   first : (is_of_secondary board e && is_in_turn p e) ≡ true
-  first = and_left (is_of_secondary board e && is_in_turn p e) (not (is_wrong_finalise p e)) next
+  first = (and_parts (is_of_secondary board e && is_in_turn p e) (not (is_wrong_finalise p e)) next).0
 
   turn : is_in_turn p e ≡ true
-  turn = and_right (is_of_secondary board e) (is_in_turn p e) first
+  turn = (and_parts (is_of_secondary board e) (is_in_turn p e) first).1
 
   secondary : (nat_lt k (length board.cores) && not (k == board.boot)) ≡ true
   secondary = sym (ap (λ (o : Option ℕ). option_map_or (λ core. nat_lt core (length board.cores) && not (core == board.boot)) o true) of)
-      ∙ and_left (is_of_secondary board e) (is_in_turn p e) first
+      ∙ (and_parts (is_of_secondary board e) (is_in_turn p e) first).0
 
 pub secondary_of : (board : Board) (p : List Event) (e : Event) → is_next board p e ≡ true → is_of_secondary board e ≡ true
 unfolding is_next
 secondary_of board p e next =
-    and_left (is_of_secondary board e) (is_in_turn p e) (and_left (is_of_secondary board e && is_in_turn p e) (not (is_wrong_finalise p e)) next)
+    (and_parts (is_of_secondary board e) (is_in_turn p e) ((and_parts (is_of_secondary board e && is_in_turn p e) (not (is_wrong_finalise p e)) next).0)).0
 
 -- a step may come next by what is asked of it
 pub next_by : (board : Board) (p : List Event) (e : Event) → is_of_secondary board e ≡ true → is_in_turn p e ≡ true → is_wrong_finalise p e ≡ false
     → is_next board p e ≡ true
 unfolding is_next
 next_by board p e secondary turn final =
-    both (is_of_secondary board e && is_in_turn p e) (not (is_wrong_finalise p e))
-    (both (is_of_secondary board e) (is_in_turn p e) secondary turn) (not_false (is_wrong_finalise p e) final)
+    and_from (is_of_secondary board e && is_in_turn p e) (not (is_wrong_finalise p e))
+    (and_from (is_of_secondary board e) (is_in_turn p e) secondary turn) (not_from_false (is_wrong_finalise p e) final)
 
 -- a test that a core with a step passes is passed by some core that made one
 among : (test : ℕ → Bool) (k : ℕ) → test k ≡ true → (p : List Event) (last : Event) → last_step k p ≡ Some last → list_any test (filter_map core_of p) ≡ true
@@ -94,10 +94,10 @@ pub settled : (board : Board) (p : List Event) (e : Event) → is_next board p e
     → (is_final p ≡ false) × ((k : ℕ) → is_begun_last (last_step k p) ≡ false)
 unfolding is_next
 settled board p e next final =
-    (left_false (is_final p) (is_some_in_flight p) neither, none_in_flight p (right_false (is_final p) (is_some_in_flight p) neither)) where
+    ((or_parts (is_final p) (is_some_in_flight p) neither).0, none_in_flight p ((or_parts (is_final p) (is_some_in_flight p) neither).1)) where
       neither : (is_final p || is_some_in_flight p) ≡ false
       neither = sym (ap (λ (b : Bool). b && (is_final p || is_some_in_flight p)) final)
-          ∙ not_true (is_wrong_finalise p e) (and_right (is_of_secondary board e && is_in_turn p e) (not (is_wrong_finalise p e)) next)
+          ∙ not-true (is_wrong_finalise p e) ((and_parts (is_of_secondary board e && is_in_turn p e) (not (is_wrong_finalise p e)) next).1)
 
 -- the order looks at the number of cores and the boot core alone
 pub order-same : (one other : Board) (p : List Event) → length one.cores ≡ length other.cores → one.boot ≡ other.boot → in_order one p ≡ in_order other p

@@ -26,7 +26,7 @@ use Rattle.armcaps_boot.specs.Facts.{Facts}
 use Rattle.armcaps_boot.specs.States.{past_of}
 use Rattle.armcaps_boot.specs.World.{World, early_cores, state_at}
 use Rattle.armcaps_board.proofs.Turns.{last-other}
-use Rattle.armcaps_boot.proofs.Histories.{early-same, come-same, store_is_step}
+use Rattle.armcaps_boot.proofs.Histories.{early-same, come-same, no_step}
 use Rattle.armcaps_boot.proofs.Holding.{IsCase, case_of, held_from, held_is, held-other, other_number, past_by, shown_early, shown_late, shown_never, never_true, state_of-boot, state_of-other}
 use Rattle.armcaps_boot.proofs.Moves.{moved}
 use Rattle.armcaps_boot.proofs.ShorterHistories.{early_listed, state_at-after}
@@ -167,7 +167,7 @@ state_stays board e p j other = by (j == board.boot) refl where
       ∙ ap (λ (o : Option Event). state_from o (held_back board p j) (past_from j p)) (sym (last-other j e p other))
       ∙ ap (λ (o : Option Cause). state_from (last_step j (e ∷ p)) o (past_from j p)) (sym (held-other board e p j other))
       ∙ ap (λ (was : Past). state_from (last_step j (e ∷ p)) (held_back board (e ∷ p) j) was)
-      (sym (past-same e p j (early-same j e p (store_is_step j e other)) (come-same j e p (store_is_step j e other))))
+      (sym (past-same e p j (early-same j e p (no_step j e other).0) (come-same j e p (no_step j e other).0)))
       ∙ sym (state_of-other board (e ∷ p) j secondary)
 
 states_agree : (f g : ℕ → CoreState) (from count : ℕ) → ((j : ℕ) → from ≤ j → f j ≡ g j)

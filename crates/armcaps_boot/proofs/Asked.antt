@@ -141,12 +141,3 @@ decided-enabled w f final none enabled noted enabled_is noted_is n within = by (
       rw (boot, local)
       (system_has_capability-over w.board.overrides (early_cores w.board w.states) w.system n (subst (λ (l : List Core). IsSystemOf w.board.overrides l w.system) (all_early w f final) f.system)
       ∙ sym (system_enabled w.board (early_cores w.board w.states) n boot local))
-
--- an answer that is no `Some`
-pub no_some : {X : Type 0} (o : Option X) → ((x : X) → o ≡ Some x → ⊥) → o ≡ None
-no_some None h = refl
-no_some (Some x) h = absurd (h x refl)
-
--- what an index of the cores reads
-pub read_core : (cores : List Core) (k : ℕ) (core : Core) → k < length cores → core ≡ slice_index_or cores k core → core ≡ core_at cores k
-read_core cores k core within is = is ∙ get_or_default cores k core _ within

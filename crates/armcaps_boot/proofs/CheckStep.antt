@@ -19,7 +19,7 @@ use Rattle.armcaps_boot.specs.World.{World, state_at}
 use Rattle.armcaps_boot.proofs.Answering.{IsTurnIn, IsAnswered, IsHeldIn, after_moved, after_skipped, check_is, held_in, judged_reply, numbered_in, parked_state, panicked_state, past-same, past_in, running_in, shows, stepped_if_held}
 use Rattle.armcaps_boot.proofs.Histories.{early-same, come-same, verified-same}
 use Rattle.armcaps_boot.proofs.Holding.{held_is}
-use Rattle.armcaps_boot.proofs.OwnSteps.{own_number, check_own, state_next, held_state, held_own, early_first, check_held}
+use Rattle.armcaps_boot.proofs.OwnSteps.{own_number, check_own, skipped, state_next, held_own, early_first, check_held}
 
 fresh_answer : (last : Option Event) (cause : Option Cause) (was : Past) → is_fresh_last last ≡ true → check_answer cause (state_from last None was) ≡ judged cause
 fresh_answer None cause was fresh = refl
@@ -50,27 +50,23 @@ check_answered board p w k r fresh = by (held_back board p k) refl where
   state_is held is = shows board p w k r ∙ ap (λ (o : Option Cause). state_from (last_step k p) o (past_from k p)) is
 
   by : (held : Option Cause) → held_back board p k ≡ held → IsAnswered board p (Check k) w
-  by (Some cause) held = record {
-    reply = Skipped;
-    is = ap (λ (o : Option Cause). reply_from o (held_back board (Check k ∷ p) k)) held;
-    answer = numbered_in board p w k (check_answer (cause_at_check w.board k) (state_at w.states k)) r ∙ ap (check_answer (cause_at_check w.board k)) h.parked;
-    after = after_skipped board p (Check k) w k r (check_own k) (held_state board p (Check k) w k cause r (own_number k) held again) (goes (cause_at_check board k) refl);
-  } where
-    h : IsHeldIn w k cause
-    h = held_in board p w k r cause held
+  by (Some cause) held =
+      skipped board p (Check k) w k cause (check_answer (cause_at_check w.board k)) r (check_own k) refl refl refl refl held again (goes (cause_at_check board k) refl) where
+        h : IsHeldIn w k cause
+        h = held_in board p w k r cause held
 
-    stepped : is_some (last_step k p) ≡ true
-    stepped = stepped_if_held board p k cause held
+        stepped : is_some (last_step k p) ≡ true
+        stepped = stepped_if_held board p k cause held
 
-    again : held_back board (Check k ∷ p) k ≡ Some cause
-    again = held_own board p (Check k) k (own_number k) stepped (verified-same k (Check k) p refl) ∙ held
+        again : held_back board (Check k ∷ p) k ≡ Some cause
+        again = held_own board p (Check k) k (own_number k) stepped (verified-same k (Check k) p refl) ∙ held
 
-    goes : (early : Option Cause) → cause_at_check board k ≡ early → halt_for k (cause_at_check board k) ≡ None
-    goes None none = ap (halt_for k) none
-    goes (Some found) some =
-        let same : found ≡ cause =
-        early_first (is_some (last_step k p)) (was_verified k p) (came_early k p) (cause_at_check board k) (cause_at_verification board (early_cores_after board p) k) cause found stepped (sym (held_is board p k) ∙ held) some in
-        ap (halt_for k) some ∙ no_halt k found (ap stops_machine same ∙ h.goes)
+        goes : (early : Option Cause) → cause_at_check board k ≡ early → halt_for k (cause_at_check board k) ≡ None
+        goes None none = ap (halt_for k) none
+        goes (Some found) some =
+            let same : found ≡ cause =
+            early_first (is_some (last_step k p)) (was_verified k p) (came_early k p) (cause_at_check board k) (cause_at_verification board (early_cores_after board p) k) cause found stepped (sym (held_is board p k) ∙ held) some in
+            ap (halt_for k) some ∙ no_halt k found (ap stops_machine same ∙ h.goes)
   by None free = on (cause_at_check board k) refl where
     reply_is : (early : Option Cause) → cause_at_check board k ≡ early → reply_of board p (Check k) ≡ reply_from None early
     reply_is early is =

@@ -4,6 +4,7 @@ use Rattle.std.specs.List.{list_any, list_all}
 use Rattle.armcaps_tables.specs.Core.{Core}
 use Rattle.armcaps_board.specs.Board.{core_at}
 use Rattle.armcaps_boot.specs.Choosing.{chosen}
+use Rattle.armcaps_logic.proofs.Searches.{list_all-between, list_any-between}
 
 pub chosen-same : (p q : ℕ → Bool) (cores : List Core) → ((k : ℕ) → p k ≡ q k) → chosen p cores ≡ chosen q cores
 chosen-same p q [] same = refl
@@ -58,50 +59,32 @@ or_same : (a b : Bool) → (a || (a || b)) ≡ (a || b)
 or_same true b = refl
 or_same false b = refl
 
-or_between : (a b c : Bool) → (a || (b || c)) ≡ (b || (a || c))
-or_between true true c = refl
-or_between true false c = refl
-or_between false b c = refl
-
-and_between : (a b c : Bool) → (a && (b && c)) ≡ (b && (a && c))
-and_between true b c = refl
-and_between false true c = refl
-and_between false false c = refl
-
 and_same : (a b : Bool) → (a && (a && b)) ≡ (a && b)
 and_same true b = refl
 and_same false b = refl
 
-any_between : (f : Core → Bool) (before after : List Core) (x : Core) → list_any f (before ++ x ∷ after) ≡ (f x || list_any f (before ++ after))
-any_between f [] after x = refl
-any_between f (y ∷ ys) after x = ap (λ b. f y || b) (any_between f ys after x) ∙ or_between (f y) (f x) (list_any f (ys ++ after))
-
-all_between : (f : Core → Bool) (before after : List Core) (x : Core) → list_all f (before ++ x ∷ after) ≡ (f x && list_all f (before ++ after))
-all_between f [] after x = refl
-all_between f (y ∷ ys) after x = ap (λ b. f y && b) (all_between f ys after x) ∙ and_between (f y) (f x) (list_all f (ys ++ after))
-
 -- whether some core passes a test, with one more core
 pub any-added : (f : Core → Bool) (less more : List Core) (x : Core) → Added less more x → list_any f more ≡ (f x || list_any f less)
 any-added f less more x a = elim a.short as (λ _. list_any f more ≡ (f x || list_any f less)) [
-  | inl s ↦ ap (list_any f) a.long ∙ any_between f a.before a.after x ∙ ap (λ l. f x || list_any f l) (sym s)
-  | inr s ↦ ap (list_any f) a.long ∙ any_between f a.before a.after x ∙ sym (or_same (f x) (list_any f (a.before ++ a.after)))
-      ∙ ap (λ b. f x || b) (sym (any_between f a.before a.after x) ∙ ap (list_any f) (sym s))
+  | inl s ↦ ap (list_any f) a.long ∙ list_any-between f a.before a.after x ∙ ap (λ l. f x || list_any f l) (sym s)
+  | inr s ↦ ap (list_any f) a.long ∙ list_any-between f a.before a.after x ∙ sym (or_same (f x) (list_any f (a.before ++ a.after)))
+      ∙ ap (λ b. f x || b) (sym (list_any-between f a.before a.after x) ∙ ap (list_any f) (sym s))
 ]
 
 -- whether all cores pass a test, with one more core
 pub all-added : (f : Core → Bool) (less more : List Core) (x : Core) → Added less more x → list_all f more ≡ (f x && list_all f less)
 all-added f less more x a = elim a.short as (λ _. list_all f more ≡ (f x && list_all f less)) [
-  | inl s ↦ ap (list_all f) a.long ∙ all_between f a.before a.after x ∙ ap (λ l. f x && list_all f l) (sym s)
-  | inr s ↦ ap (list_all f) a.long ∙ all_between f a.before a.after x ∙ sym (and_same (f x) (list_all f (a.before ++ a.after)))
-      ∙ ap (λ b. f x && b) (sym (all_between f a.before a.after x) ∙ ap (list_all f) (sym s))
+  | inl s ↦ ap (list_all f) a.long ∙ list_all-between f a.before a.after x ∙ ap (λ l. f x && list_all f l) (sym s)
+  | inr s ↦ ap (list_all f) a.long ∙ list_all-between f a.before a.after x ∙ sym (and_same (f x) (list_all f (a.before ++ a.after)))
+      ∙ ap (λ b. f x && b) (sym (list_all-between f a.before a.after x) ∙ ap (list_all f) (sym s))
 ]
 
 -- a core of a list that passes a test, or a list all of which pass it
 pub any-among : (f : Core → Bool) (cores : List Core) (x : Core) → Among cores x → f x ≡ true → list_any f cores ≡ true
-any-among f cores x m h = ap (list_any f) m.is ∙ any_between f m.before m.after x ∙ ap (λ b. b || list_any f (m.before ++ m.after)) h
+any-among f cores x m h = ap (list_any f) m.is ∙ list_any-between f m.before m.after x ∙ ap (λ b. b || list_any f (m.before ++ m.after)) h
 
 pub all-among : (f : Core → Bool) (cores : List Core) (x : Core) → Among cores x → list_all f cores ≡ true → f x ≡ true
-all-among f cores x m h = left (f x) (list_all f (m.before ++ m.after)) (sym (ap (list_all f) m.is ∙ all_between f m.before m.after x) ∙ h) where
+all-among f cores x m h = left (f x) (list_all f (m.before ++ m.after)) (sym (ap (list_all f) m.is ∙ list_all-between f m.before m.after x) ∙ h) where
   left : (a b : Bool) → (a && b) ≡ true → a ≡ true
   left true b e = refl
   left false b e = e

@@ -2,6 +2,7 @@
 use Rattle.std.proofs.Common.{◌≡◌, ◌<◌, ℕ, Bool, true, false, cond, ◌&&◌, ◌||◌, List, length, None, Ok, refl, sym, ◌∙◌, ap, subst}
 use Rattle.std.specs.Prelude.{◌==◌, nat_lt, bit_and}
 use Rattle.std.specs.List.{list_any}
+use Rattle.std.proofs.lemmas.Bool.{false≢true}
 use Rattle.std.proofs.lemmas.Bool.Decides.{Decides-ltb, Decides-eqb}
 use Rattle.armcaps_tables.specs.Core.{Core}
 use Rattle.armcaps_sanit.specs.System.{IsSystemOf, merged_words}
@@ -46,41 +47,31 @@ both true false e = absurd (let no : ⊥ = cc in no)
 both false b e = absurd (let no : ⊥ = cc in no)
 
 gone_passed : (state : CoreState) → is_gone state ≡ true → (has_passed state ≡ true) × (is_admitted state ≡ true)
-gone_passed (Gone true) e = (refl, refl)
-gone_passed (Gone false) e = (refl, refl)
-gone_passed Absent e = absurd (let no : ⊥ = cc in no)
-gone_passed (Checked past) e = absurd (let no : ⊥ = cc in no)
-gone_passed (Updated past) e = absurd (let no : ⊥ = cc in no)
-gone_passed (Admitted late) e = absurd (let no : ⊥ = cc in no)
-gone_passed (IsParked cause) e = absurd (let no : ⊥ = cc in no)
-gone_passed (HasPanicked cause) e = absurd (let no : ⊥ = cc in no)
+gone_passed state e = elim state as (λ s. is_gone s ≡ true → (has_passed s ≡ true) × (is_admitted s ≡ true)) [
+  | Gone late ↦ λ h. (refl, went late)
+  | _ ↦ λ h. absurd (false≢true h)
+] e where
+  went : (late : Bool) → is_admitted (Gone late) ≡ true
+  went true = refl
+  went false = refl
 
 gone_checked : (state : CoreState) → is_gone state ≡ true → check_answer None state ≡ Ok Done
-gone_checked (Gone late) e = refl
-gone_checked Absent e = refl
-gone_checked (Checked past) e = absurd (let no : ⊥ = cc in no)
-gone_checked (Updated past) e = absurd (let no : ⊥ = cc in no)
-gone_checked (Admitted late) e = absurd (let no : ⊥ = cc in no)
-gone_checked (IsParked cause) e = absurd (let no : ⊥ = cc in no)
-gone_checked (HasPanicked cause) e = absurd (let no : ⊥ = cc in no)
+gone_checked state e = elim state as (λ s. is_gone s ≡ true → check_answer None s ≡ Ok Done) [
+  | Gone late ↦ λ h. refl
+  | _ ↦ λ h. absurd (false≢true h)
+] e
 
 checked_local : (state : CoreState) → is_checked state ≡ true → local_answer None state ≡ Ok Done
-checked_local (Checked past) e = refl
-checked_local (Gone late) e = absurd (let no : ⊥ = cc in no)
-checked_local Absent e = absurd (let no : ⊥ = cc in no)
-checked_local (Updated past) e = absurd (let no : ⊥ = cc in no)
-checked_local (Admitted late) e = absurd (let no : ⊥ = cc in no)
-checked_local (IsParked cause) e = absurd (let no : ⊥ = cc in no)
-checked_local (HasPanicked cause) e = absurd (let no : ⊥ = cc in no)
+checked_local state e = elim state as (λ s. is_checked s ≡ true → local_answer None s ≡ Ok Done) [
+  | Checked was ↦ λ h. refl
+  | _ ↦ λ h. absurd (false≢true h)
+] e
 
 updated_store : (state : CoreState) → is_updated state ≡ true → store_answer state ≡ Ok Done
-updated_store (Updated past) e = refl
-updated_store (Gone late) e = absurd (let no : ⊥ = cc in no)
-updated_store Absent e = absurd (let no : ⊥ = cc in no)
-updated_store (Checked past) e = absurd (let no : ⊥ = cc in no)
-updated_store (Admitted late) e = absurd (let no : ⊥ = cc in no)
-updated_store (IsParked cause) e = absurd (let no : ⊥ = cc in no)
-updated_store (HasPanicked cause) e = absurd (let no : ⊥ = cc in no)
+updated_store state e = elim state as (λ s. is_updated s ≡ true → store_answer s ≡ Ok Done) [
+  | Updated was ↦ λ h. refl
+  | _ ↦ λ h. absurd (false≢true h)
+] e
 
 -- a core that was ever admitted has no cause at its local step
 pub no_cause_back : (w : World) → Facts w → (k : ℕ) → is_admitted (state_at w.states k) ≡ true → cause_at_local w k ≡ None

@@ -101,21 +101,6 @@ gone_same : (test : Past → Bool) (late : Bool) → test (past_admitted late) �
 gone_same test true = refl
 gone_same test false = refl
 
-gone_not_updated : (past : Past) → is_updated (gone_after past) ≡ false
-gone_not_updated Never = refl
-gone_not_updated Early = refl
-gone_not_updated Late = refl
-
-gone_not_panicked : (past : Past) (cause : Cause) → gone_after past ≡ Panicked cause → ⊥
-gone_not_panicked Never cause e = cc
-gone_not_panicked Early cause e = cc
-gone_not_panicked Late cause e = cc
-
-gone_not_parked : (past : Past) (cause : Cause) → gone_after past ≡ Parked cause → ⊥
-gone_not_parked Never cause e = cc
-gone_not_parked Early cause e = cc
-gone_not_parked Late cause e = cc
-
 -- a core that was admitted and goes
 pub facts_left : (w : World) (f : Facts w) (k : ℕ) (late : Bool) → k < length w.board.cores → (k ≡ w.board.boot → ⊥) → w.halted ≡ None
     → state_at w.states k ≡ Admitted late → Facts (left_world w k)
@@ -128,16 +113,16 @@ facts_left w f k late within not_boot running is =
       verified = λ final a. (f.states k).verified final (past_same is_admitted_past ∙ a);
       updated = λ final u. absurd (let bad : true ≡ false = sym u ∙ not_updated in let no : ⊥ = cc in no);
       after_finalise = λ l. (f.states k).after_finalise (past_same is_late_past ∙ l);
-      parked = λ cause e. absurd (gone_not_parked (past_of (state_at w.states k)) cause e);
-      panicked = λ cause e. absurd (gone_not_panicked (past_of (state_at w.states k)) cause e);
+      parked = λ cause e. absurd (let no : ⊥ = cc in no);
+      panicked = λ cause e. absurd (let no : ⊥ = cc in no);
     })
-    (still_running w f k gone within running (gone_not_panicked (past_of (state_at w.states k))))
+    (still_running w f k gone within running (λ cause e. cc))
   where
     gone : CoreState
     gone = gone_after (past_of (state_at w.states k))
 
     not_updated : is_updated (gone_after (past_of (state_at w.states k))) ≡ false
-    not_updated = gone_not_updated (past_of (state_at w.states k))
+    not_updated = refl
 
     past_same : (test : Past → Bool) → test (past_of (state_at w.states k)) ≡ test (past_of (gone_after (past_of (state_at w.states k))))
     past_same test = let e = ap past_of is in rw e (gone_same test late)

@@ -2,7 +2,7 @@
 use Rattle.std.proofs.Common.{◌≡◌, ◌<◌, ◌≤◌, ◌+◌, ◌⊎◌, inl, inr, ℕ, zero, suc, Bool, true, false, not, ◌&&◌, ◌||◌, List, [], ◌∷◌, Option, Some, None, refl, sym, ◌∙◌, ap, subst, arith}
 use Rattle.std.specs.Prelude.{◌==◌, nat_lt}
 use Rattle.std.specs.List.{list_any, range_with_len}
-use Rattle.std.proofs.lemmas.Bool.{cases_lt}
+use Rattle.std.proofs.lemmas.Bool.{cases_lt, and_parts, or_left, or_parts, or_right}
 use Rattle.std.proofs.lemmas.Bool.Decides.{Decides-ltb, Decides-eqb, not_from_Decides}
 use Rattle.armcaps_board.specs.declared.event.Event.{Event}
 use Rattle.armcaps_board.specs.declared.event.Event.TheVariants.{Check, Local, Store, Offline, Finalise}
@@ -10,7 +10,6 @@ use Rattle.armcaps_board.specs.Board.{Board}
 use Rattle.armcaps_board.specs.Order.{in_order, is_begun_last, is_next, is_up_last, is_updated_last}
 use Rattle.armcaps_board.specs.Steps.{is_final, is_finalise, is_local_of, is_step_of, is_store_of, last_step}
 use Rattle.armcaps_boot.specs.Admission.{came_early, has_come, was_verified}
-use Rattle.armcaps_board.proofs.Bools.{and_left, and_right, or_left, or_right, right_false}
 use Rattle.armcaps_board.proofs.Turns.{last-other, last-own, settled, turn_of}
 
 -- went offline
@@ -24,19 +23,12 @@ on_either true b e P l r = l refl
 on_either false b e P l r = r e
 
 -- a core's store and its local step are steps of it
-pub store_is_step : (k : ℕ) (e : Event) → is_step_of k e ≡ false → is_store_of k e ≡ false
-store_is_step k (Store c) h = h
-store_is_step k (Check c) h = refl
-store_is_step k (Local c) h = refl
-store_is_step k (Offline c) h = refl
-store_is_step k Finalise h = refl
-
-pub local_is_step : (k : ℕ) (e : Event) → is_step_of k e ≡ false → is_local_of k e ≡ false
-local_is_step k (Local c) h = h
-local_is_step k (Check c) h = refl
-local_is_step k (Store c) h = refl
-local_is_step k (Offline c) h = refl
-local_is_step k Finalise h = refl
+pub no_step : (k : ℕ) (e : Event) → is_step_of k e ≡ false → (is_store_of k e ≡ false) × (is_local_of k e ≡ false)
+no_step k (Store c) h = (h, refl)
+no_step k (Local c) h = (refl, h)
+no_step k (Check c) h = (refl, refl)
+no_step k (Offline c) h = (refl, refl)
+no_step k Finalise h = (refl, refl)
 
 or_nothing : (a b c : Bool) → b ≡ false → (a || (b && c)) ≡ a
 or_nothing true b c e = refl
@@ -71,7 +63,7 @@ early_came k [] e = absurd (let no : ⊥ = cc in no)
 early_came k (e ∷ p) h =
     on_either (came_early k p) (is_store_of k e && not (is_final p)) h (has_come k (e ∷ p) ≡ true)
     (λ l. or_right (is_store_of k e) (has_come k p) (early_came k p l))
-    (λ r. or_left (is_store_of k e) (has_come k p) (and_left _ _ r))
+    (λ r. or_left (is_store_of k e) (has_come k p) ((and_parts _ _ r).0))
 
 -- a core is verified after finalisation alone
 pub verified_final : (k : ℕ) (p : List Event) → was_verified k p ≡ true → is_final p ≡ true
@@ -80,7 +72,7 @@ verified_final k [] e = absurd (let no : ⊥ = cc in no)
 verified_final k (e ∷ p) h =
     on_either (was_verified k p) (is_local_of k e && is_final p) h (is_final (e ∷ p) ≡ true)
     (λ l. or_right (is_finalise e) (is_final p) (verified_final k p l))
-    (λ r. or_right (is_finalise e) (is_final p) (and_right _ _ r))
+    (λ r. or_right (is_finalise e) (is_final p) ((and_parts _ _ r).1))
 
 -- a core without a step has neither come nor been verified
 pub without_step : (k : ℕ) (p : List Event) → last_step k p ≡ None → (has_come k p ≡ false) × (was_verified k p ≡ false)
@@ -92,7 +84,7 @@ without_step k (e ∷ p) none = by (is_step_of k e) refl (without_step k p) wher
   by true own more = absurd (let bad : Some e ≡ None = sym (last-own k e p own) ∙ none in let no : ⊥ = cc in no)
   by false other more =
       let before = more (sym (last-other k e p other) ∙ none) in
-      (come-same k e p (store_is_step k e other) ∙ before.0, verified-same k e p (local_is_step k e other) ∙ before.1)
+      (come-same k e p (no_step k e other).0 ∙ before.0, verified-same k e p (no_step k e other).1 ∙ before.1)
 
 -- what holds of a core after steps in order
 pub record IsCourse (past : List Event) (core : ℕ) : Type 0 where
@@ -115,7 +107,7 @@ begun_or_not (Some Finalise) h u = cc
 course_other : (board : Board) (p : List Event) (e : Event) → is_next board p e ≡ true → (k : ℕ) → IsCourse p k → is_step_of k e ≡ false
     → IsCourse (e ∷ p) k
 course_other board p e next k h other = record {
-  late = λ came early. verified ∙ h.late (sym come ∙ came) (sym (early-same k e p (store_is_step k e other)) ∙ early);
+  late = λ came early. verified ∙ h.late (sym come ∙ came) (sym (early-same k e p (no_step k e other).0) ∙ early);
   updated = λ final local. verified ∙ on_either (is_finalise e) (is_final p) final (was_verified k p ≡ true)
       (λ now. absurd (begun_or_not (last_step k p) ((settled board p e next now).1 k) (sym (ap is_updated_last last) ∙ local)))
       (λ before. h.updated before (sym (ap is_updated_last last) ∙ local));
@@ -126,10 +118,10 @@ course_other board p e next k h other = record {
   last = last-other k e p other
 
   come : has_come k (e ∷ p) ≡ has_come k p
-  come = come-same k e p (store_is_step k e other)
+  come = come-same k e p (no_step k e other).0
 
   verified : was_verified k (e ∷ p) ≡ was_verified k p
-  verified = verified-same k e p (local_is_step k e other)
+  verified = verified-same k e p (no_step k e other).1
 
 -- a core's course after a step of its own
 course_own : (board : Board) (p : List Event) (e : Event) → is_next board p e ≡ true → (k : ℕ) → IsCourse p k → is_step_of k e ≡ true
@@ -153,7 +145,7 @@ course_own board p (Store c) next k h own =
     let last = last-own k (Store c) p own in
     let same : c ≡ k = (Decides-eqb c k).0 own in
     let local : is_updated_last (last_step k p) ≡ true = subst (λ (j : ℕ). is_updated_last (last_step j p) ≡ true) same (turn_of board p (Store c) c refl next).follows in record {
-      late = λ came early. verified-same k (Store c) p refl ∙ h.updated (not_false (is_final p) (by_store (sym (ap (λ b. b && not (is_final p)) own) ∙ right_false (came_early k p) _ early))) local;
+      late = λ came early. verified-same k (Store c) p refl ∙ h.updated (not_false (is_final p) (by_store (sym (ap (λ b. b && not (is_final p)) own) ∙ (or_parts (came_early k p) _ early).1))) local;
       updated = λ final u. absurd (let bad : false ≡ true = sym (ap is_updated_last last) ∙ u in let no : ⊥ = cc in no);
       up = λ u. ap (λ b. b || has_come k p) own;
       gone = λ g. absurd (let bad : false ≡ true = sym (ap is_gone_last last) ∙ g in let no : ⊥ = cc in no);
@@ -184,7 +176,7 @@ course board [] order k = record {
   up = λ u. absurd (let no : ⊥ = cc in no);
   gone = λ g. absurd (let no : ⊥ = cc in no);
 }
-course board (e ∷ p) order k = by (is_step_of k e) refl (course board p (and_right (is_next board p e) (in_order board p) order) k) where
+course board (e ∷ p) order k = by (is_step_of k e) refl (course board p ((and_parts (is_next board p e) (in_order board p) order).1) k) where
   by : (b : Bool) → is_step_of k e ≡ b → IsCourse p k → IsCourse (e ∷ p) k
-  by true own before = course_own board p e (and_left (is_next board p e) (in_order board p) order) k before own
-  by false other before = course_other board p e (and_left (is_next board p e) (in_order board p) order) k before other
+  by true own before = course_own board p e ((and_parts (is_next board p e) (in_order board p) order).0) k before own
+  by false other before = course_other board p e ((and_parts (is_next board p e) (in_order board p) order).0) k before other

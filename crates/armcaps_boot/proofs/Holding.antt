@@ -21,7 +21,7 @@ use Rattle.armcaps_boot.specs.Choosing.{chosen}
 use Rattle.armcaps_boot.specs.States.{is_admitted, is_admitted_past, is_early, is_early_past, is_late, is_late_past, past_of}
 use Rattle.armcaps_boot.proofs.ChosenCores.{chosen-same}
 use Rattle.armcaps_board.proofs.Turns.{last-other, last-own}
-use Rattle.armcaps_boot.proofs.Histories.{course, early-final, early_came, is_gone_last, local_is_step, verified-same, verified_final, without_step}
+use Rattle.armcaps_boot.proofs.Histories.{course, early-final, early_came, is_gone_last, no_step, verified-same, verified_final, without_step}
 
 -- why a core is held back, by what is looked at
 abbrev pub held_from : Bool → Option Cause → Bool → Bool → Option Cause → Option Cause
@@ -63,7 +63,7 @@ held_stays board e p k stepped verified =
     ∙ sym (held_is board p k)
 
 pub held-other : (board : Board) (e : Event) (p : List Event) (k : ℕ) → is_step_of k e ≡ false → held_back board (e ∷ p) k ≡ held_back board p k
-held-other board e p k other = held_stays board e p k (ap is_some (last-other k e p other)) (verified-same k e p (local_is_step k e other))
+held-other board e p k other = held_stays board e p k (ap is_some (last-other k e p other)) (verified-same k e p (no_step k e other).1)
 
 pub other_number : (j k : ℕ) → (j ≡ k → ⊥) → (j == k) ≡ false
 other_number j k other = by (j == k) refl where
@@ -214,47 +214,39 @@ pub state_of-boot : (board : Board) (p : List Event) (k : ℕ) → (k == board.b
 unfolding state_of
 state_of-boot board p k here = rw here refl
 
-past_of_state : (board : Board) (p : List Event) (k : ℕ) → in_order board p ≡ true → k < length board.cores → (k == board.boot) ≡ false
+past_of_state : (board : Board) (p : List Event) (k : ℕ) → in_order board p ≡ true → (k == board.boot) ≡ false
     → past_of (state_of board p k) ≡ shown (cause_at_check board k) (was_verified k p) (came_early k p) (has_come k p) (cause_at_verification board (early_cores_after board p) k)
-past_of_state board p k order within other =
+past_of_state board p k order other =
     ap past_of (state_of-other board p k other ∙ ap (λ (o : Option Cause). state_from (last_step k p) o (past_from k p)) (held_is board p k))
     ∙ past_shown (last_step k p) (cause_at_check board k) (was_verified k p) (came_early k p) (has_come k p) (cause_at_verification board (early_cores_after board p) k)
     (case_of board p order k)
 
--- the early cores and those that were ever admitted are those whose states say so
-pub early_by_state : (board : Board) (p : List Event) (k : ℕ) → in_order board p ≡ true → k < length board.cores
-    → is_early (state_of board p k) ≡ is_among_early board p k
-early_by_state board p k order within = by (k == board.boot) refl where
-  by : (b : Bool) → (k == board.boot) ≡ b → is_early (state_of board p k) ≡ is_among_early board p k
-  by true here = ap is_early (state_of-boot board p k here) ∙ sym (ap (λ (b : Bool). b || (came_early k p && is_none (cause_at_check board k))) here)
-  by false other =
-      ap is_early_past (past_of_state board p k order within other)
-      ∙ shown_is_early (cause_at_check board k) (was_verified k p) (came_early k p) (has_come k p) (cause_at_verification board (early_cores_after board p) k)
-      ∙ sym (ap (λ (b : Bool). b || (came_early k p && is_none (cause_at_check board k))) other)
+-- what a test of a core's state says, by what it says of the boot core and of what the steps say of another
+by_state : (board : Board) (p : List Event) (k : ℕ) (test : Past → Bool) (among : Bool → Bool) → in_order board p ≡ true → test Early ≡ among true
+    → test (shown (cause_at_check board k) (was_verified k p) (came_early k p) (has_come k p) (cause_at_verification board (early_cores_after board p) k)) ≡ among false
+    → test (past_of (state_of board p k)) ≡ among (k == board.boot)
+by_state board p k test among order here other = by (k == board.boot) refl where
+  by : (b : Bool) → (k == board.boot) ≡ b → test (past_of (state_of board p k)) ≡ among b
+  by true is = ap (λ (s : CoreState). test (past_of s)) (state_of-boot board p k is) ∙ here
+  by false is = ap test (past_of_state board p k order is) ∙ other
 
-pub admitted_by_state : (board : Board) (p : List Event) (k : ℕ) → in_order board p ≡ true → k < length board.cores
-    → is_admitted (state_of board p k) ≡ is_among_admitted board p k
-admitted_by_state board p k order within = by (k == board.boot) refl where
-  among : Bool → Bool
-  among b = (b || (came_early k p && is_none (cause_at_check board k)))
-      || (not b && has_come k p && not (came_early k p) && is_none (cause_at_check board k) && is_none (cause_at_verification board (early_cores_after board p) k))
+-- the early cores, the late ones and those that were ever admitted are those whose states say so
+pub early_by_state : (board : Board) (p : List Event) (k : ℕ) → in_order board p ≡ true → is_early (state_of board p k) ≡ is_among_early board p k
+early_by_state board p k order =
+    by_state board p k is_early_past (λ b. b || (came_early k p && is_none (cause_at_check board k))) order refl
+    (shown_is_early (cause_at_check board k) (was_verified k p) (came_early k p) (has_come k p) (cause_at_verification board (early_cores_after board p) k))
 
-  by : (b : Bool) → (k == board.boot) ≡ b → is_admitted (state_of board p k) ≡ is_among_admitted board p k
-  by true here = ap is_admitted (state_of-boot board p k here) ∙ sym (ap among here)
-  by false other =
-      ap is_admitted_past (past_of_state board p k order within other)
-      ∙ shown_is_admitted (cause_at_check board k) (was_verified k p) (came_early k p) (has_come k p) (cause_at_verification board (early_cores_after board p) k)
-      ∙ sym (ap among other)
+pub admitted_by_state : (board : Board) (p : List Event) (k : ℕ) → in_order board p ≡ true → is_admitted (state_of board p k) ≡ is_among_admitted board p k
+admitted_by_state board p k order =
+    by_state board p k is_admitted_past
+    (λ b. (b || (came_early k p && is_none (cause_at_check board k)))
+    || (not b && has_come k p && not (came_early k p) && is_none (cause_at_check board k) && is_none (cause_at_verification board (early_cores_after board p) k)))
+    order refl
+    (shown_is_admitted (cause_at_check board k) (was_verified k p) (came_early k p) (has_come k p) (cause_at_verification board (early_cores_after board p) k))
 
-pub late_by_state : (board : Board) (p : List Event) (k : ℕ) → in_order board p ≡ true → k < length board.cores
-    → is_late (state_of board p k) ≡ is_among_late board p k
-late_by_state board p k order within = by (k == board.boot) refl where
-  among : Bool → Bool
-  among b = not b && has_come k p && not (came_early k p) && is_none (cause_at_check board k) && is_none (cause_at_verification board (early_cores_after board p) k)
-
-  by : (b : Bool) → (k == board.boot) ≡ b → is_late (state_of board p k) ≡ is_among_late board p k
-  by true here = ap is_late (state_of-boot board p k here) ∙ sym (ap among here)
-  by false other =
-      ap is_late_past (past_of_state board p k order within other)
-      ∙ shown_is_late (cause_at_check board k) (was_verified k p) (came_early k p) (has_come k p) (cause_at_verification board (early_cores_after board p) k)
-      ∙ sym (ap among other)
+pub late_by_state : (board : Board) (p : List Event) (k : ℕ) → in_order board p ≡ true → is_late (state_of board p k) ≡ is_among_late board p k
+late_by_state board p k order =
+    by_state board p k is_late_past
+    (λ b. not b && has_come k p && not (came_early k p) && is_none (cause_at_check board k) && is_none (cause_at_verification board (early_cores_after board p) k))
+    order refl
+    (shown_is_late (cause_at_check board k) (was_verified k p) (came_early k p) (has_come k p) (cause_at_verification board (early_cores_after board p) k))

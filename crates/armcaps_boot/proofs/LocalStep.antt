@@ -18,17 +18,13 @@ use Rattle.armcaps_boot.specs.Changes.{noted_with}
 use Rattle.armcaps_boot.specs.States.{is_admitted, is_admitted_past, past_of}
 use Rattle.armcaps_boot.specs.World.{World, early_cores, state_at}
 use Rattle.armcaps_boot.proofs.Answering.{IsTurnIn, IsAnswered, IsHeldIn, after_moved, after_skipped, held_in, judged_reply, verification_is, numbered_in, parked_state, past-same, past_in, running_in, shows, stepped_if_held}
-use Rattle.armcaps_board.proofs.Bools.{or_left, or_right}
+use Rattle.std.proofs.lemmas.Bool.{or_left, or_right}
 use Rattle.armcaps_board.proofs.Turns.{last-own}
 use Rattle.armcaps_boot.proofs.Histories.{early-same, come-same, verified_final}
 use Rattle.armcaps_boot.proofs.Holding.{held_from, held_is, late-final, past_by}
 use Rattle.armcaps_boot.proofs.StepLaw.{misfit_does_not_stop}
-use Rattle.armcaps_boot.proofs.OwnSteps.{own_number, local_own, state_next, held_state, no_early}
+use Rattle.armcaps_boot.proofs.OwnSteps.{own_number, local_own, skipped, state_next, stepped_by, no_early}
 use Rattle.armcaps_boot.proofs.CheckStep.{goes_reply}
-
-checked_stepped : (last : Option Event) → is_checked_last last ≡ true → is_some last ≡ true
-checked_stepped None h = h
-checked_stepped (Some e) h = refl
 
 checked_answer : (last : Option Event) (cause : Option Cause) (was : Past) → is_checked_last last ≡ true → local_answer cause (state_from last None was) ≡ judged cause
 checked_answer (Some (Check c)) cause was h = refl
@@ -116,17 +112,10 @@ pub local_answered : (board : Board) (p : List Event) (w : World) (k : ℕ) → 
 unfolding reply_of
 local_answered board p w k r ready = by (held_back board p k) refl where
   stepped : is_some (last_step k p) ≡ true
-  stepped = checked_stepped (last_step k p) ready
+  stepped = stepped_by is_checked_last (last_step k p) refl ready
 
   by : (held : Option Cause) → held_back board p k ≡ held → IsAnswered board p (Local k) w
-  by (Some cause) held = record {
-    reply = Skipped;
-    is = ap (λ (o : Option Cause). reply_from o (held_back board (Local k ∷ p) k)) held;
-    answer = numbered_in board p w k (local_answer (cause_at_local w k) (state_at w.states k)) r ∙ ap (local_answer (cause_at_local w k)) h.parked;
-    after = after_skipped board p (Local k) w k r (local_own k) (held_state board p (Local k) w k cause r (own_number k) held (local_again board p k cause held)) refl;
-  } where
-    h : IsHeldIn w k cause
-    h = held_in board p w k r cause held
+  by (Some cause) held = skipped board p (Local k) w k cause (local_answer (cause_at_local w k)) r (local_own k) refl refl refl refl held (local_again board p k cause held) refl
   by None free = on (cause_at_local w k) refl where
     held_after : held_back board (Local k ∷ p) k ≡ cause_at_local w k
     held_after = local_held board p w k r stepped free

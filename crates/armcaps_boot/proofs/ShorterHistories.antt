@@ -15,14 +15,14 @@ use Rattle.armcaps_boot.specs.Causes.{cause_at_check, cause_at_verification}
 use Rattle.armcaps_boot.specs.Choosing.{chosen}
 use Rattle.armcaps_boot.specs.States.{is_admitted, is_early}
 use Rattle.armcaps_boot.specs.World.{admitted_cores, early_cores, state_at}
-use Rattle.armcaps_board.proofs.Bools.{and_right, or_left, or_right}
+use Rattle.std.proofs.lemmas.Bool.{and_parts, or_left, or_right}
 use Rattle.armcaps_boot.proofs.Histories.{course, early-final, early_came, verified_final}
 use Rattle.armcaps_boot.proofs.Holding.{admitted_by_state, early_by_state, late-final}
 
 pub order_before : (board : Board) (later p : List Event) → in_order board (later ++ p) ≡ true → in_order board p ≡ true
 unfolding in_order
 order_before board [] p order = order
-order_before board (e ∷ later) p order = order_before board later p (and_right (is_next board (later ++ p) e) (in_order board (later ++ p)) order)
+order_before board (e ∷ later) p order = order_before board later p ((and_parts (is_next board (later ++ p) e) (in_order board (later ++ p)) order).1)
 
 -- a core that has come is as early after one more step as it was
 came_early-stays : (board : Board) (e : Event) (p : List Event) → in_order board p ≡ true → (k : ℕ) → has_come k p ≡ true
@@ -65,7 +65,7 @@ among_after : (board : Board) (later p : List Event) → in_order board (later +
 unfolding in_order
 among_after board [] p order k within come = refl
 among_after board (e ∷ later) p order k within come =
-    let before = and_right (is_next board (later ++ p) e) (in_order board (later ++ p)) order in
+    let before = (and_parts (is_next board (later ++ p) e) (in_order board (later ++ p)) order).1 in
     among_stays board e (later ++ p) before k within (come_stays later p k come) ∙ among_after board later p before k within come
 
 among_not_come : (boot came e l : Bool) → (came ≡ true → false ≡ true) → among_by boot false came e l ≡ boot
@@ -85,7 +85,7 @@ pub admitted_shorter : (board : Board) (later p : List Event) (k : ℕ) → in_o
     → k < length board.cores
     → is_admitted (state_of board p k) ≡ ((k == board.boot) || (has_come k p && is_among_admitted board (later ++ p) k))
 admitted_shorter board later p k order within =
-    admitted_by_state board p k (order_before board later p order) within ∙ by (has_come k p) refl where
+    admitted_by_state board p k (order_before board later p order) ∙ by (has_come k p) refl where
       by : (b : Bool) → has_come k p ≡ b → is_among_admitted board p k ≡ ((k == board.boot) || (has_come k p && is_among_admitted board (later ++ p) k))
       by true come = on (k == board.boot) refl where
         on : (b : Bool) → (k == board.boot) ≡ b → is_among_admitted board p k ≡ ((k == board.boot) || (has_come k p && is_among_admitted board (later ++ p) k))
@@ -113,9 +113,9 @@ state_at-after board p k within = get_or-map-range_with_len (state_of board p) 0
 pub early_listed : (board : Board) (p : List Event) → in_order board p ≡ true → early_cores board (states_after board p) ≡ early_cores_after board p
 early_listed board p order =
     chosen-within (λ n. is_early (state_at (states_after board p) n)) (is_among_early board p) board.cores
-    (λ k within. ap is_early (state_at-after board p k within) ∙ early_by_state board p k order within)
+    (λ k within. ap is_early (state_at-after board p k within) ∙ early_by_state board p k order)
 
 pub admitted_listed : (board : Board) (p : List Event) → in_order board p ≡ true → admitted_cores board (states_after board p) ≡ admitted_cores_after board p
 admitted_listed board p order =
     chosen-within (λ n. is_admitted (state_at (states_after board p) n)) (is_among_admitted board p) board.cores
-    (λ k within. ap is_admitted (state_at-after board p k within) ∙ admitted_by_state board p k order within)
+    (λ k within. ap is_admitted (state_at-after board p k within) ∙ admitted_by_state board p k order)

@@ -122,23 +122,17 @@ local_keeps w k f running within not_boot (HasPanicked reason) is final final_is
 
 store_keeps : (w : World) (k : ℕ) → Facts w → w.halted ≡ None → k < length w.board.cores → (k ≡ w.board.boot → ⊥)
     → (state : CoreState) → state_at w.states k ≡ state → Facts (world_after w (Store k) (store_answer state))
-store_keeps w k f running within not_boot (Updated past) is = facts_stored w f k past within not_boot running is
-store_keeps w k f running within not_boot (IsParked reason) is = f
-store_keeps w k f running within not_boot Absent is = f
-store_keeps w k f running within not_boot (Gone gone) is = f
-store_keeps w k f running within not_boot (Checked past) is = f
-store_keeps w k f running within not_boot (Admitted admitted) is = f
-store_keeps w k f running within not_boot (HasPanicked reason) is = f
+store_keeps w k f running within not_boot state is = elim state as (λ s. state_at w.states k ≡ s → Facts (world_after w (Store k) (store_answer s))) [
+  | Updated was ↦ facts_stored w f k was within not_boot running
+  | _ ↦ λ e. f
+] is
 
 offline_keeps : (w : World) (k : ℕ) → Facts w → w.halted ≡ None → k < length w.board.cores → (k ≡ w.board.boot → ⊥)
     → (state : CoreState) → state_at w.states k ≡ state → Facts (world_after w (Offline k) (offline_answer state))
-offline_keeps w k f running within not_boot (Admitted late) is = facts_left w f k late within not_boot running is
-offline_keeps w k f running within not_boot (IsParked reason) is = f
-offline_keeps w k f running within not_boot Absent is = f
-offline_keeps w k f running within not_boot (Gone gone) is = f
-offline_keeps w k f running within not_boot (Checked past) is = f
-offline_keeps w k f running within not_boot (Updated past) is = f
-offline_keeps w k f running within not_boot (HasPanicked reason) is = f
+offline_keeps w k f running within not_boot state is = elim state as (λ s. state_at w.states k ≡ s → Facts (world_after w (Offline k) (offline_answer s))) [
+  | Admitted late ↦ facts_left w f k late within not_boot running
+  | _ ↦ λ e. f
+] is
 
 finalise_keeps : (w : World) → Facts w → (final : Bool) → w.final ≡ final → (flying : Option ℕ) → first_in_flight w.states ≡ flying
     → Facts (world_after w Finalise (finalise_answer final flying))

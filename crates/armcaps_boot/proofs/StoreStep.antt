@@ -21,15 +21,7 @@ use Rattle.armcaps_boot.specs.World.{World, state_at}
 use Rattle.armcaps_boot.proofs.Answering.{IsTurnIn, IsAnswered, IsHeldIn, after_moved, after_skipped, held_in, numbered_in, past-same, past_in, running_in, shows}
 use Rattle.armcaps_boot.proofs.Histories.{course, early-same, come-same, verified-same, verified_final}
 use Rattle.armcaps_boot.proofs.Holding.{past_by}
-use Rattle.armcaps_boot.proofs.OwnSteps.{own_number, store_own, offline_own, state_next, held_state, held_own}
-
-updated_stepped : (last : Option Event) → is_updated_last last ≡ true → is_some last ≡ true
-updated_stepped None h = h
-updated_stepped (Some e) h = refl
-
-up_stepped : (last : Option Event) → is_up_last last ≡ true → is_some last ≡ true
-up_stepped None h = h
-up_stepped (Some e) h = refl
+use Rattle.armcaps_boot.proofs.OwnSteps.{own_number, store_own, offline_own, skipped, state_next, stepped_by, held_own}
 
 updated_answer : (last : Option Event) (was : Past) → is_updated_last last ≡ true → store_answer (state_from last None was) ≡ Ok Done
 updated_answer (Some (Local c)) was h = refl
@@ -61,17 +53,10 @@ pub store_answered : (board : Board) (p : List Event) (w : World) (k : ℕ) → 
 unfolding reply_of came_early
 store_answered board p w k r ready = by (held_back board p k) refl where
   stays : held_back board (Store k ∷ p) k ≡ held_back board p k
-  stays = held_own board p (Store k) k (own_number k) (updated_stepped (last_step k p) ready) (verified-same k (Store k) p refl)
+  stays = held_own board p (Store k) k (own_number k) (stepped_by is_updated_last (last_step k p) refl ready) (verified-same k (Store k) p refl)
 
   by : (held : Option Cause) → held_back board p k ≡ held → IsAnswered board p (Store k) w
-  by (Some cause) held = record {
-    reply = Skipped;
-    is = ap (λ (o : Option Cause). reply_from o (held_back board (Store k ∷ p) k)) held;
-    answer = numbered_in board p w k (store_answer (state_at w.states k)) r ∙ ap store_answer h.parked;
-    after = after_skipped board p (Store k) w k r (store_own k) (held_state board p (Store k) w k cause r (own_number k) held (stays ∙ held)) refl;
-  } where
-    h : IsHeldIn w k cause
-    h = held_in board p w k r cause held
+  by (Some cause) held = skipped board p (Store k) w k cause store_answer r (store_own k) refl refl refl refl held (stays ∙ held) refl
   by None free = record {
     reply = Done;
     is = ap (λ (o : Option Cause). reply_from o (held_back board (Store k ∷ p) k)) free ∙ ap (reply_from None) (stays ∙ free);
@@ -89,26 +74,17 @@ store_answered board p w k r ready = by (held_back board p k) refl where
   }
 
 leaves : (was : Past) → Gone (is_late_past was) ≡ gone_after was
-leaves Never = refl
-leaves Early = refl
-leaves Late = refl
+leaves was = refl
 
 pub offline_answered : (board : Board) (p : List Event) (w : World) (k : ℕ) → IsTurnIn board p w k → is_up_last (last_step k p) ≡ true
     → IsAnswered board p (Offline k) w
 unfolding reply_of
 offline_answered board p w k r ready = by (held_back board p k) refl where
   stays : held_back board (Offline k ∷ p) k ≡ held_back board p k
-  stays = held_own board p (Offline k) k (own_number k) (up_stepped (last_step k p) ready) (verified-same k (Offline k) p refl)
+  stays = held_own board p (Offline k) k (own_number k) (stepped_by is_up_last (last_step k p) refl ready) (verified-same k (Offline k) p refl)
 
   by : (held : Option Cause) → held_back board p k ≡ held → IsAnswered board p (Offline k) w
-  by (Some cause) held = record {
-    reply = Skipped;
-    is = ap (λ (o : Option Cause). reply_from o (held_back board (Offline k ∷ p) k)) held;
-    answer = numbered_in board p w k (offline_answer (state_at w.states k)) r ∙ ap offline_answer h.parked;
-    after = after_skipped board p (Offline k) w k r (offline_own k) (held_state board p (Offline k) w k cause r (own_number k) held (stays ∙ held)) refl;
-  } where
-    h : IsHeldIn w k cause
-    h = held_in board p w k r cause held
+  by (Some cause) held = skipped board p (Offline k) w k cause offline_answer r (offline_own k) refl refl refl refl held (stays ∙ held) refl
   by None free = record {
     reply = Done;
     is = ap (λ (o : Option Cause). reply_from o (held_back board (Offline k ∷ p) k)) free ∙ ap (reply_from None) (stays ∙ free);

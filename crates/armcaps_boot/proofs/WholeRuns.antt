@@ -22,14 +22,15 @@ use Rattle.armcaps_boot.specs.Causes.{capability_enabled, cause_at_check, cause_
 use Rattle.armcaps_boot.specs.Changes.{world_after}
 use Rattle.armcaps_boot.specs.Facts.{Facts}
 use Rattle.armcaps_boot.specs.First.{first_states, first_world}
-use Rattle.armcaps_boot.specs.Outcome.{IsFirstCause, IsAdmittedOrParked, IsSafe, is_enabled_after}
+use Rattle.armcaps_boot.specs.Outcome.{IsAdmittedOrParked, IsFirstCause, IsSafe, is_enabled_after}
 use Rattle.armcaps_boot.specs.Safety.{WasAdmitted, core_has, is_enabled}
 use Rattle.armcaps_boot.specs.States.{is_admitted, is_admitted_past}
 use Rattle.armcaps_boot.specs.World.{World, state_at}
 use Rattle.armcaps_boot.proofs.Answering.{IsHeldIn, IsTurnIn, early_cores_are, held_in, past_in, states_set}
 use Rattle.armcaps_boot.proofs.Beginning.{first_facts}
 use Rattle.armcaps_boot.proofs.AnySteps.{step_after, step_answered}
-use Rattle.armcaps_board.proofs.Bools.{and_left, and_right, not_true}
+use Rattle.std.proofs.lemmas.Bool.{and_parts, not-true, false≢true}
+use Rattle.armcaps_logic.proofs.Options.{option_or_first}
 use Rattle.armcaps_board.proofs.Turns.{none_in_flight, turn_of}
 use Rattle.armcaps_boot.proofs.Histories.{course, early_came, is_gone_last, on_either}
 use Rattle.armcaps_boot.proofs.Holding.{admitted_by_state, held_from, held_is, not_finalise, other_number, past_by, state_of-boot, state_of-other}
@@ -65,10 +66,6 @@ pub record IsReached (board : Board) (p : List Event) : Type 0 where
   pub facts : Facts world
   pub after : IsAfter board p world
 
-none_first : (a b : Option Halt) → option_or a b ≡ None → a ≡ None
-none_first None b e = refl
-none_first (Some halt) b e = e
-
 pub reached : (board : Board) (p : List Event) → IsBoard board → in_order board p ≡ true → halt_of board p ≡ None → IsReached board p
 unfolding in_order halt_of
 reached board [] b order running = record {
@@ -77,9 +74,9 @@ reached board [] b order running = record {
   after = begins board b.within;
 }
 reached board (e ∷ p) b order running =
-    let next = and_left (is_next board p e) (in_order board p) order in
-    let before_order = and_right (is_next board p e) (in_order board p) order in
-    let still = none_first (halt_of board p) (halt_at board e) running in
+    let next = (and_parts (is_next board p e) (in_order board p) order).0 in
+    let before_order = (and_parts (is_next board p e) (in_order board p) order).1 in
+    let still = option_or_first (halt_of board p) (halt_at board e) running in
     let r = reached board p b before_order still in
     let w = r.world in
     let answer = step_answered board p e w r.facts r.after before_order next still in record {
@@ -93,28 +90,28 @@ come_within : (board : Board) (p : List Event) (k : ℕ) → in_order board p �
 unfolding in_order
 come_within board [] k order come = absurd (let no : ⊥ = cc in no)
 come_within board (Store c ∷ p) k order come =
-    let t = turn_of board p (Store c) c refl (and_left (is_next board p (Store c)) (in_order board p) order) in
+    let t = turn_of board p (Store c) c refl ((and_parts (is_next board p (Store c)) (in_order board p) order).0) in
     on_either (c == k) (has_come k p) come (k < length board.cores) (λ own. subst (λ (j : ℕ). j < length board.cores) ((Decides-eqb c k).0 own) t.within)
-    (λ before. come_within board p k (and_right (is_next board p (Store c)) (in_order board p) order) before)
-come_within board (Check c ∷ p) k order come = come_within board p k (and_right (is_next board p (Check c)) (in_order board p) order) come
-come_within board (Local c ∷ p) k order come = come_within board p k (and_right (is_next board p (Local c)) (in_order board p) order) come
-come_within board (Offline c ∷ p) k order come = come_within board p k (and_right (is_next board p (Offline c)) (in_order board p) order) come
-come_within board (Finalise ∷ p) k order come = come_within board p k (and_right (is_next board p Finalise) (in_order board p) order) come
+    (λ before. come_within board p k ((and_parts (is_next board p (Store c)) (in_order board p) order).1) before)
+come_within board (Check c ∷ p) k order come = come_within board p k ((and_parts (is_next board p (Check c)) (in_order board p) order).1) come
+come_within board (Local c ∷ p) k order come = come_within board p k ((and_parts (is_next board p (Local c)) (in_order board p) order).1) come
+come_within board (Offline c ∷ p) k order come = come_within board p k ((and_parts (is_next board p (Offline c)) (in_order board p) order).1) come
+come_within board (Finalise ∷ p) k order come = come_within board p k ((and_parts (is_next board p Finalise) (in_order board p) order).1) come
+
+late_came : (boot come early at_check late : Bool) → (not boot && come && not early && at_check && late) ≡ true → come ≡ true
+late_came boot true early at_check late h = refl
+late_came true false early at_check late h = absurd (false≢true h)
+late_came false false early at_check late h = absurd (false≢true h)
 
 -- an admitted core is one of the board
-among_within : (board : Board) (p : List Event) (k : ℕ) → IsBoard board → in_order board p ≡ true
-    → is_among_admitted board p k ≡ true → k < length board.cores
+among_within : (board : Board) (p : List Event) (k : ℕ) → IsBoard board → in_order board p ≡ true → is_among_admitted board p k ≡ true → k < length board.cores
 among_within board p k b order among =
     on_either (is_among_early board p k) (is_among_late board p k) among (k < length board.cores)
     (λ early. on_either (k == board.boot) (came_early k p && is_none (cause_at_check board k)) early (k < length board.cores)
     (λ here. subst (λ (j : ℕ). j < length board.cores) (sym ((Decides-eqb k board.boot).0 here)) b.within)
-    (λ came. come (early_came k p (and_left (came_early k p) (is_none (cause_at_check board k)) came))))
-    (λ late. come (and_right (not (k == board.boot)) (has_come k p)
-    (and_left (not (k == board.boot) && has_come k p) (not (came_early k p))
-    (and_left (not (k == board.boot) && has_come k p && not (came_early k p)) (is_none (cause_at_check board k))
-    (and_left (not (k == board.boot) && has_come k p && not (came_early k p) && is_none (cause_at_check board k)) (is_none (cause_at_verification board (early_cores_after board p) k)) late))))) where
-      come : has_come k p ≡ true → k < length board.cores
-      come h = come_within board p k order h
+    (λ came. come_within board p k order (early_came k p (and_parts (came_early k p) (is_none (cause_at_check board k)) came).0)))
+    (λ late. come_within board p k order (late_came (k == board.boot) (has_come k p) (came_early k p) (is_none (cause_at_check board k))
+    (is_none (cause_at_verification board (early_cores_after board p) k)) late))
 
 enabled_is : (board : Board) (p : List Event) (w : World) (n : ℕ) → IsAfter board p w → in_order board p ≡ true
     → is_enabled w n ≡ is_enabled_after board p n
@@ -130,7 +127,7 @@ was_admitted : (board : Board) (p : List Event) (w : World) (core : ℕ) → IsB
 was_admitted board p w core b after order among =
     let within = among_within board p core b order among in
     ap (λ (l : List CoreState). is_admitted (state_at l core)) after.states ∙ ap is_admitted (state_at-after board p core within)
-    ∙ admitted_by_state board p core order within ∙ among
+    ∙ admitted_by_state board p core order ∙ among
 
 -- what held a core back
 held_cases : (early : Option Cause) (verified came : Bool) (late : Option Cause) (cause : Cause) → held_from true early verified came late ≡ Some cause
@@ -168,7 +165,7 @@ held_rightly board p w k r stepped begun = by (held_back board p k) refl where
 
   by : (held : Option Cause) → held_back board p k ≡ held → IsAdmittedOrParked board p k
   by None free =
-      inl (sym (admitted_by_state board p k r.order r.within) ∙ ap is_admitted (sym (state_is board p w k r)) ∙ ap is_admitted_past (past_in board p w k r free)
+      inl (sym (admitted_by_state board p k r.order) ∙ ap is_admitted (sym (state_is board p w k r)) ∙ ap is_admitted_past (past_in board p w k r free)
       ∙ came_admitted (came_early k p) (has_come k p) come)
   by (Some cause) held = inr (cause, record { parked = sym (state_is board p w k r) ∙ h.parked; first = on (held_cases (cause_at_check board k) (was_verified k p) (came_early k p) (cause_at_verification board (early_cores_after board p) k) cause from) }) where
     from : held_from true (cause_at_check board k) (was_verified k p) (came_early k p) (cause_at_verification board (early_cores_after board p) k) ≡ Some cause
@@ -209,7 +206,7 @@ safe board p b order complete running = record {
   w = r.world
 
   final : w.final ≡ true
-  final = r.after.final ∙ and_left (is_final p) (not (is_some_in_flight p)) complete
+  final = r.after.final ∙ (and_parts (is_final p) (not (is_some_in_flight p)) complete).0
 
   turn : (core : ℕ) → core < length board.cores → (core == board.boot) ≡ false → IsTurnIn board p w core
   turn core within other = record {
@@ -222,7 +219,7 @@ safe board p b order complete running = record {
   }
 
   settles : (core : ℕ) → is_begun_last (last_step core p) ≡ false
-  settles core = none_in_flight p (not_true _ (and_right (is_final p) (not (is_some_in_flight p)) complete)) core
+  settles core = none_in_flight p (not-true _ ((and_parts (is_final p) (not (is_some_in_flight p)) complete).1)) core
 
   by : (core : ℕ) → core < length board.cores → is_some (last_step core p) ≡ true → (boot : Bool) → (core == board.boot) ≡ boot → IsAdmittedOrParked board p core
   by core within stepped true here =
@@ -232,7 +229,7 @@ safe board p b order complete running = record {
   -- a parked core is not admitted, so it is held back, and for one cause alone
   judge : (core : ℕ) (cause : Cause) → core < length board.cores → state_of board p core ≡ Parked cause → IsAdmittedOrParked board p core → IsFirstCause board p core cause
   judge core cause within is (inl among) =
-      absurd (let bad : false ≡ true = sym (ap is_admitted is) ∙ admitted_by_state board p core order within ∙ among in let no : ⊥ = cc in no)
+      absurd (let bad : false ≡ true = sym (ap is_admitted is) ∙ admitted_by_state board p core order ∙ among in let no : ⊥ = cc in no)
   judge core cause within is (inr held) = subst (λ (c : Cause). IsFirstCause board p core c) (same_cause (state_of board p core) held.0 cause held.1.parked is) held.1.first
 
   parked : (core : ℕ) (cause : Cause) → core < length board.cores → state_of board p core ≡ Parked cause → (boot : Bool) → (core == board.boot) ≡ boot → IsFirstCause board p core cause

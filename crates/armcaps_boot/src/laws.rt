@@ -37,14 +37,11 @@ pub fn steps_are_answered()
 /// first of these steps exactly where it is the boot core, or it is admitted by all of them and its first store
 /// stands among the first.
 pub fn sets_are_those_of_the_steps()
-    ensures is_early { (board : Board) (steps : List Step) (core : ℕ)
-        → in_order board steps ≡ true → core < length board.cores
+    ensures is_early { (board : Board) (steps : List Step) (core : ℕ) → in_order board steps ≡ true
         → is_early (state_of board steps core) ≡ is_among_early board steps core }
-    ensures is_late { (board : Board) (steps : List Step) (core : ℕ)
-        → in_order board steps ≡ true → core < length board.cores
+    ensures is_late { (board : Board) (steps : List Step) (core : ℕ) → in_order board steps ≡ true
         → is_late (state_of board steps core) ≡ is_among_late board steps core }
-    ensures is_admitted { (board : Board) (steps : List Step) (core : ℕ)
-        → in_order board steps ≡ true → core < length board.cores
+    ensures is_admitted { (board : Board) (steps : List Step) (core : ℕ) → in_order board steps ≡ true
         → is_admitted (state_of board steps core) ≡ is_among_admitted board steps core }
     ensures early { (board : Board) (steps : List Step) → in_order board steps ≡ true
         → early_cores board (states_after board steps) ≡ early_cores_after board steps }

@@ -1,9 +1,8 @@
 use Rattle.std.proofs.Common.{◌∙◌, ap, sym, refl, ℕ, Bool, true, false, Option, None}
-use Rattle.armcaps_boot.specs.Answers.{first_in_flight}
+use Rattle.armcaps_boot.specs.Answers.{finalise_answer, first_in_flight}
 use Rattle.armcaps_boot.specs.Changes.{final_world}
-use Rattle.armcaps_boot.specs.Answers.{finalise_answer}
 use Rattle.armcaps_boot.specs.Machine.{world_of}
-use Rattle.armcaps_boot.proofs.Asked.{no_some}
+use Rattle.armcaps_logic.proofs.Options.{none_from_never}
 use Rattle.armcaps_boot.proofs.FinalWorld.{final_world-same, lengths_by}
 use Rattle.armcaps_boot.proofs.machine.Machine.finalise.Goals as goal
 use Rattle.armcaps_boot.proofs.machine.Machine.finalise.Goals.{then-contains, else-contains}
@@ -11,7 +10,7 @@ use Rattle.armcaps_boot.proofs.machine.Machine.finalise.Goals.{then-contains, el
 pub returns : goal.returns
 returns c =
     let w = world_of c.args.self.now in
-    let none = rw c.deref.ensures.value at (sym c.first_in_flight.ensures ∙ no_some c.first_in_flight.result c.in_default.not-Some) in
+    let none = rw c.deref.ensures.value at (sym c.first_in_flight.ensures ∙ none_from_never c.first_in_flight.result c.in_default.not-Some) in
     record {
       answer = sym (ap (λ (o : Option ℕ). finalise_answer w.final o) none ∙ ap (λ (b : Bool). finalise_answer b None) c.if-self.false);
       after = final_world-same w c.requires.facts c.if-self.false none c.args.self.now.enabled c.args.self.now.noted c.decided-self.result refl refl c.decided-self.ensures
