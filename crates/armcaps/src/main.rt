@@ -2,7 +2,8 @@
 //! this file hands it the command line and the standard streams.
 #![tactic(auto)]
 
-ghost use Rattle.std.specs.Prelude.{◌≡◌, [], false, map, string_bytes};
+ghost use Rattle.std.specs.Prelude.{◌≡◌, [], IfOk, drop, false, map, string_bytes};
+ghost use Rattle.std.specs.Vec.Iter.{into_iter_items};
 ghost use Rattle.std.specs.Process.{exit_status};
 ghost use Rattle.armcaps_top.specs.Commands.{command_of};
 ghost use Rattle.armcaps_top.specs.Run.{Promises, change, reads_input};
@@ -10,9 +11,16 @@ ghost use Rattle.armcaps_top.specs.Run.{Promises, change, reads_input};
 use armcaps_boot::Boot;
 use armcaps_io::{RealSink, RealSource, Sink, Source};
 use armcaps_top::run;
-use std::alloc::Global;
-use std::env;
+use std::alloc::{AllocError, Global};
+use std::env::{self, Args};
 use std::process::ExitCode;
+
+// The words of a command line, whose first argument is the program's name.
+fn words_of(alloc: Global, arguments: Args) -> Result<Vec<String>, AllocError>
+    ensures { IfOk result (λ words. words.items ≡ drop 1 (into_iter_items arguments)) }
+{
+    arguments.skip(1).collect(alloc)
+}
 
 // Runs the program, and hands on its status.
 fn exit<S: Source, O: Sink, E: Sink>(
@@ -36,7 +44,7 @@ fn main(rt: HostRuntime) -> ExitCode {
     let Ok(arguments) = env::args(&rt) else {
         return ExitCode::FAILURE;
     };
-    let Ok(words) = arguments.skip(1).collect::<Vec<String>>(rt.alloc()) else {
+    let Ok(words) = words_of(rt.alloc(), arguments) else {
         return ExitCode::FAILURE;
     };
     let mut input = RealSource::new(rt.stdin());

@@ -1,6 +1,6 @@
 //! What the definitions say of every document. The function has nothing to do when it runs: its contract is the law.
 
-ghost use Rattle.std.specs.Prelude.{◌≡◌, ◌≢◌, ℕ, ℤ, List, Some, Ok, slice_get};
+ghost use Rattle.std.specs.Prelude.{◌≡◌, ◌≢◌, ◌≤◌, ℕ, ℤ, List, Some, Ok, slice_get};
 ghost use Rattle.armcaps_rule.specs.Rule.{fold_of, merged};
 ghost use Rattle.armcaps_enc.specs.declared.register.SysReg.{SysReg};
 ghost use Rattle.armcaps_tables.specs.Core.{core_word};
@@ -11,29 +11,34 @@ ghost use Rattle.armcaps_tables.specs.Rows.{rows_of};
 ghost use Rattle.armcaps_sanit.specs.System.{field_values, system_field, system_word};
 ghost use Rattle.armcaps_sanit.specs.Users.{user_field, user_word};
 ghost use Rattle.armcaps_board.specs.Board.{core_at};
+ghost use Rattle.armcaps_text.specs.Sound.{IsSound};
+ghost use Rattle.armcaps_top.specs.Demo.{generated_document};
 ghost use Rattle.armcaps_top.specs.Document.{Document, document};
 ghost use Rattle.armcaps_top.specs.Answer.{admitted_in};
 
-use armcaps_text::laws::readings_are_sound;
+use armcaps_text::laws::{generated_machines_are_sound, readings_are_sound};
 
-/// Of every document and register: each field of the system's word is its rule's value over the cores that were ever admitted,
-/// under the command line's override, each field of the word that users see is what they see of that value, and every other bit
-/// of both is 0. An override that is not taken, since merging it with the boot core's value gives another, leaves no mark:
-/// the field is as if there were none.
+/// Each document that is an input is sound, and so is each that `demo` works on. Of every sound document and register: each field
+/// of the system's word is its rule's value over the cores that were ever admitted, under the command line's override, each field
+/// of the word that users see is what they see of that value, and every other bit of both is 0. An override that is not taken,
+/// since merging it with the boot core's value gives another, leaves no mark: the field is as if there were none.
 #[tactic(auto, unfolding(crate::specs::Document::document))]
 pub fn document_fields_hold()
-    ensures system { (input : List ℕ) (found : Document) (reg : SysReg) → document input ≡ Ok found
+    ensures inputs { (input : List ℕ) (found : Document) → document input ≡ Ok found → IsSound found.reading }
+    ensures generated { (seed cores : ℕ) → 1 ≤ cores → cores ≤ 64 → IsSound (generated_document seed cores).reading }
+    ensures system { (found : Document) (reg : SysReg) → IsSound found.reading
         → IsMadeOf (system_field found.reading.board.overrides (admitted_in found) reg) (rows_of reg)
         (system_word found.reading.board.overrides (admitted_in found) reg) }
-    ensures users { (input : List ℕ) (found : Document) (reg : SysReg) → document input ≡ Ok found
+    ensures users { (found : Document) (reg : SysReg) → IsSound found.reading
         → IsMadeOf (user_field found.reading.board.overrides (admitted_in found) reg) (rows_of reg)
         (user_word found.reading.board.overrides (admitted_in found) reg) }
-    ensures ignored { (input : List ℕ) (found : Document) (reg : SysReg) (index : ℕ) (row : Row) (value : ℤ)
-        → document input ≡ Ok found → slice_get (rows_of reg) index ≡ Some row
+    ensures ignored { (found : Document) (reg : SysReg) (index : ℕ) (row : Row) (value : ℤ)
+        → IsSound found.reading → slice_get (rows_of reg) index ≡ Some row
         → override_of found.reading.board.overrides reg index ≡ Some value
         → merged row.rule row.safe value (field_in row (core_word (core_at found.reading.board.cores found.reading.board.boot) reg)) ≢ value
         → system_field found.reading.board.overrides (admitted_in found) reg index row
         ≡ fold_of row.rule row.safe (field_values (admitted_in found) reg row) }
 {
     readings_are_sound();
+    generated_machines_are_sound();
 }
