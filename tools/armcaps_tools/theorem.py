@@ -35,11 +35,13 @@ TABLES = {
 HEAD = """<!-- Written by tools/definitions from the contracts and definitions of the crates. Do not edit. -->
 # The theorem
 
-A run of `armcaps` ends. Where its status is 0, the bytes that it was given are a document that no step stops, and it wrote exactly
-what its command makes of that document, and nothing else: registers, capabilities, hwcaps, vector lengths and patched words as they
-are defined below, for every order in which the cores came up. Each core that was admitted has every system feature that is enabled,
-and each workaround that such a core needs is enabled. Any other status says why nothing was written, or that a stream failed, and
-the line on the error stream says the same. The checker has proved this of `armcaps_top::run`, whose contract is the record `Promises`.
+A run of `armcaps` ends. Where its status is 0, the bytes that its command works on bring up machines that no step stops, and it wrote
+exactly what the command makes of those bytes, and nothing else: registers, capabilities, hwcaps, vector lengths and patched words
+as they are defined below, for every order in which the cores came up. Each core that was admitted has every system feature that is
+enabled, and each workaround that such a core needs is enabled. Any other status says why nothing was written, or that a stream
+failed or there was no memory, and the error stream got the line that says so, or a first part of it where it failed itself. The checker has
+proved this of `armcaps_top::run`, whose contract is the record `Promises`. Bytes are spoken of where the source tells its bytes and
+the sink what it holds, as those in memory do; README.md says what is left of it over real streams.
 
 This page is all that has to be believed of that: `Promises`, and each definition that it rests on, as it stands in crates/NAME/specs,
 with the words above it. A name is explained after its first use, in the order of the first use within a subject. It is
