@@ -1,28 +1,27 @@
 -- Searches in a list: what some and all items pass, what is found, and at which place.
-use Rattle.std.proofs.Common.{◌≡◌, ℕ, zero, suc, ◌+◌, ◌<◌, ◌≤◌, inl, inr, Bool, true, false, ◌&&◌, ◌||◌, List, [], ◌∷◌, ◌++◌, length, get_or, Some, None, slice_get, position, find, refl, ◌∙◌, subst, arith}
+use Rattle.std.proofs.Common.{◌≡◌, ℕ, zero, suc, ◌+◌, ◌<◌, ◌≤◌, inl, inr, Bool, true, false, ◌&&◌, ◌||◌, List, [], ◌∷◌, ◌++◌, length, get_or, Some, None, slice_get, position, find, refl, sym, ap, ◌∙◌, subst, arith}
 use Rattle.std.specs.List.{list_all, list_any, position_or_len, range_with_len}
-use Rattle.std.proofs.lemmas.Bool.{and_from, and_parts, cases_Bool, cases_lt, le-ltb, lt-ltb, or_parts}
+use Rattle.std.proofs.lemmas.Bool.{and_from, and_parts, cases_Bool, cases_lt, false_from_ne_true, false≢true, true_from_ne_false, le-ltb, lt-ltb, or_parts}
 use Rattle.std.proofs.lemmas.Bool.Decides.{nat_tests}
-use Rattle.std.proofs.lemmas.List.Folds.{list_all-append, list_any-append}
+use Rattle.std.proofs.lemmas.List.Folds.{list_all-append, list_all_at, list_any-append, list_any_at}
+use Rattle.std.proofs.lemmas.Option.{get_or_from_slice_get, slice_get_within}
 use Rattle.std.proofs.lemmas.List.Sums.{position_or_len_is}
 
 -- an item of a list that passes a test whole passes it
 pub list_all-item : {X : Type 0} (test : X → Bool) (xs : List X) (i : ℕ) (x : X) → list_all test xs ≡ true
     → slice_get xs i ≡ Some x → test x ≡ true
-list_all-item test [] i x passes at = cc
-list_all-item test (y ∷ ys) zero x passes at =
-    let same : y ≡ x = cc in
-    subst (λ z. test z ≡ true) same (and_parts (test y) (list_all test ys) passes).0
-list_all-item test (y ∷ ys) (suc i) x passes at = list_all-item test ys i x (and_parts (test y) (list_all test ys) passes).1 at
+list_all-item test xs i x passes at =
+    let inside : i < length xs = slice_get_within xs i x at in
+    let read : test (get_or xs i x) ≡ test x = ap test (get_or_from_slice_get xs i x x at) in
+    true_from_ne_false (test x) (λ fails. false≢true (sym (list_all_at test xs i x inside (read ∙ fails)) ∙ passes))
 
 -- an item of a list in which none passes doesn't pass
 pub list_any-item : {X : Type 0} (test : X → Bool) (xs : List X) (i : ℕ) (x : X) → list_any test xs ≡ false
     → slice_get xs i ≡ Some x → test x ≡ false
-list_any-item test [] i x passes at = cc
-list_any-item test (y ∷ ys) zero x passes at =
-    let same : y ≡ x = cc in
-    subst (λ z. test z ≡ false) same (or_parts (test y) (list_any test ys) passes).0
-list_any-item test (y ∷ ys) (suc i) x passes at = list_any-item test ys i x (or_parts (test y) (list_any test ys) passes).1 at
+list_any-item test xs i x none at =
+    let inside : i < length xs = slice_get_within xs i x at in
+    let read : test (get_or xs i x) ≡ test x = ap test (get_or_from_slice_get xs i x x at) in
+    false_from_ne_true (test x) (λ passes. false≢true (sym none ∙ list_any_at test xs i x inside (read ∙ passes)))
 
 -- what both parts of a list pass, the list passes
 pub list_all-both : {X : Type 0} (test : X → Bool) (xs ys : List X) → list_all test xs ≡ true → list_all test ys ≡ true

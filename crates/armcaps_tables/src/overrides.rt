@@ -60,7 +60,7 @@ impl Overrides {
             → override_of self.new other place ≡ override_of self.old other place }
         ensures whole { IsWhole self.new }
     {
-        self.values[reg.place()][index] = Some(cut(reg, index, bits));
+        self.values[reg.place()][index] = Some(cut_value(reg, index, bits));
     }
 
     /// The value that stands in for a field, if one does. The field can have it.
@@ -76,7 +76,7 @@ impl Overrides {
 }
 
 // The value of a field whose bits are the low bits of `bits`.
-fn cut(reg: SysReg, index: usize, bits: u64) -> i64
+fn cut_value(reg: SysReg, index: usize, bits: u64) -> i64
     requires { index < length (rows_of reg) }
     ensures value { option_map (λ row. cut_value row bits) (slice_get (rows_of reg) index) ≡ Some result }
     ensures fits { (row : Row) → slice_get (rows_of reg) index ≡ Some row → IsTrue (override_fits row (Some result)) }

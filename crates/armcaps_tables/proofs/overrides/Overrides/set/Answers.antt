@@ -7,19 +7,19 @@ use Rattle.armcaps_tables.proofs.overrides.Overrides.set.Goals as goal
 pub invariant_of-self : goal.invariant_of-self
 invariant_of-self c =
     let within : c.args.index < 16 = omega (arith, few_rows c.args.reg) in
-    rw (c.place.ensures.value, to_z-of_z w64 c.cut.result (record { sfits = c.cut.type_inv }))
+    rw (c.place.ensures.value, to_z-of_z w64 c.cut_value.result (record { sfits = c.cut_value.type_inv }))
     (record {
       fit = changed_fits c.self.inside.values c.args.reg c.args.index
-          (Some c.cut.result) c.self.invariant.whole within c.self.invariant.fit c.cut.ensures.fits;
-      whole = changed_whole c.self.inside.values c.args.reg c.args.index (Some c.cut.result) c.self.invariant.whole;
+          (Some c.cut_value.result) c.self.invariant.whole within c.self.invariant.fit c.cut_value.ensures.fits;
+      whole = changed_whole c.self.inside.values c.args.reg c.args.index (Some c.cut_value.result) c.self.invariant.whole;
     })
 
 pub returns-clause-here : goal.returns-clause-here
 returns-clause-here c =
     let within : c.args.index < 16 = omega (arith, few_rows c.args.reg) in
-    rw (c.place.ensures.value, to_z-of_z w64 c.cut.result (record { sfits = c.cut.type_inv }))
-    (changed_here c.self.inside.values c.args.reg c.args.index (Some c.cut.result) c.self.invariant.whole within
-    ∙ sym c.cut.ensures.value)
+    rw (c.place.ensures.value, to_z-of_z w64 c.cut_value.result (record { sfits = c.cut_value.type_inv }))
+    (changed_here c.self.inside.values c.args.reg c.args.index (Some c.cut_value.result) c.self.invariant.whole within
+    ∙ sym c.cut_value.ensures.value)
 
 pub returns-clause-others : goal.returns-clause-others
 returns-clause-others c = λ other place apart.
