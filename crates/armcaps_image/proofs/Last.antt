@@ -1,7 +1,8 @@
 -- The last item that passes.
-use Rattle.std.proofs.Common.{◌≡◌, ◌<◌, ◌∷◌, ◌∙◌, ◌⊎◌, ℕ, Bool, List, [], None, Option, Some, arith, false, get_or, inl, inr, length, map, refl, subst, suc, true}
-use Rattle.std.specs.Option.{option_map}
+use Rattle.std.proofs.Common.{◌≡◌, ◌+◌, ◌<◌, ◌≤◌, ◌∷◌, ◌++◌, ◌∙◌, ◌⊎◌, ℕ, Bool, List, [], None, Option, Some, ap, arith, drop, false, get_or, inl, inr, length, map, refl, subst, sym, suc, take, true}
+use Rattle.std.specs.Option.{option_map, option_or}
 use Rattle.std.proofs.lemmas.Bool.{cases_Bool}
+use Rattle.std.proofs.lemmas.List.{get_or-drop, get_or-take, length-drop, length-take, take-append-drop}
 use Rattle.armcaps_image.specs.Last.{last_that}
 
 option_cases : {X : Type 0} (o : Option X) → (o ≡ None) ⊎ ((x : X) × (o ≡ Some x))
@@ -50,3 +51,40 @@ last_that-passes {X} test (y ∷ ys) x found = elim (option_cases (last_that tes
     | inr past ↦ (let same : None ≡ Some x = rw (none, past) at found in cc)
   ]
 ]
+
+-- the last of two lists is the second's, and where it has none the first's
+pub last_that-append : {X : Type 0} (test : X → Bool) (xs ys : List X)
+    → last_that test (xs ++ ys) ≡ option_or (last_that test ys) (last_that test xs)
+last_that-append test [] ys = elim (option_cases (last_that test ys)) [
+  | inl none ↦ rw none refl
+  | inr (y, later) ↦ rw later refl
+]
+last_that-append test (x ∷ xs) ys = rw (last_that-append test xs ys) (elim (option_cases (last_that test ys)) [
+  | inl none ↦ rw none refl
+  | inr (y, later) ↦ rw later refl
+])
+
+-- nothing is lost of a list where no item before its middle passes, and none behind it
+pub last_that-middle : {X : Type 0} (test : X → Bool) (xs : List X) (a b : ℕ) → a ≤ length xs
+    → ((k : ℕ) (d : X) → k < a → test (get_or xs k d) ≡ false)
+    → ((k : ℕ) (d : X) → b ≤ k → k < length (drop a xs) → test (get_or (drop a xs) k d) ≡ false)
+    → last_that test (take b (drop a xs)) ≡ last_that test xs
+last_that-middle {X} test xs a b within before behind =
+    let rest : List X = drop a xs in
+    let front : last_that test (take a xs) ≡ None = last_that-none test (take a xs) (λ k d inside.
+    let short : k < a = omega (arith, length-take a xs) in
+    let here : get_or (take a xs) k d ≡ get_or xs k d = get_or-take a xs k d short in
+    rw here (before k d short)) in
+    let back : last_that test (drop b rest) ≡ None = last_that-none test (drop b rest) (λ k d inside.
+    let here : get_or (drop b rest) k d ≡ get_or rest (b + k) d = get_or-drop b rest k d in
+    rw here (behind (b + k) d (omega arith) (omega (arith, length-drop b rest)))) in
+    let whole : last_that test xs ≡ option_or (last_that test rest) (last_that test (take a xs)) =
+    ap (last_that test) (sym (take-append-drop a xs)) ∙ last_that-append test (take a xs) rest in
+    let parts : last_that test rest ≡ option_or (last_that test (drop b rest)) (last_that test (take b rest)) =
+    ap (last_that test) (sym (take-append-drop b rest)) ∙ last_that-append test (take b rest) (drop b rest) in
+    let first : last_that test rest ≡ last_that test (take b rest) = parts ∙ rw back refl in
+    let second : last_that test xs ≡ last_that test rest = whole ∙ rw front (elim (option_cases (last_that test rest)) [
+      | inl none ↦ rw none refl
+      | inr (x, found) ↦ rw found refl
+    ]) in
+    sym (second ∙ first)

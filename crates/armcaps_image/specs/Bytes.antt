@@ -19,11 +19,9 @@ signed_in bytes place =
     let word = word_in bytes place in
     if nat_le (2 ^ 31) word then pos word -ℤ pos (2 ^ 32) else pos word
 
--- the number in the eight bytes at a place, in two's complement
-abbrev pub signed_quad_in : List ℕ → ℕ → ℤ
-signed_quad_in bytes place =
-    let quad = quad_in bytes place in
-    if nat_le (2 ^ 63) quad then pos quad -ℤ pos (2 ^ 64) else pos quad
+-- a number of eight bytes, read in two's complement
+abbrev pub as_signed_quad : ℕ → ℤ
+as_signed_quad quad = if nat_le (2 ^ 63) quad then pos quad -ℤ pos (2 ^ 64) else pos quad
 
 -- a byte of a word, counted from the lowest, which is 0
 abbrev pub byte_of : ℕ → ℕ → ℕ

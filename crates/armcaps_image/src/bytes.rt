@@ -1,5 +1,5 @@
 ghost use Rattle.std.specs.Prelude.{◌≡◌, ◌+◌, ◌-◌, ◌<◌, ◌<ℤ◌, ◌≤◌, ◌≤ℤ◌, ◌^◌, ◌&&◌, ℕ, if◌then◌else◌, length, nat_le, nat_lt, neg_ℤ, pos, slice_index};
-ghost use Rattle.armcaps_image.specs.Bytes.{byte_of, half_in, quad_in, signed_in, signed_quad_in, word_in};
+ghost use Rattle.armcaps_image.specs.Bytes.{byte_of, half_in, quad_in, signed_in, word_in};
 
 use byteorder::{ByteOrder, LittleEndian};
 
@@ -35,14 +35,6 @@ pub fn signed(bytes: &[u8], place: usize) -> i64
     ensures high { result <ℤ pos (2 ^ 31) }
 {
     word(bytes, place).cast_signed() as i64
-}
-
-/// The number in the eight bytes at a place, in two's complement.
-pub fn signed_quad(bytes: &[u8], place: usize) -> i64
-    requires { place + 8 ≤ length bytes.now }
-    ensures { result ≡ signed_quad_in bytes.now place }
-{
-    quad(bytes, place).cast_signed()
 }
 
 /// Puts a word at a place. All other bytes stay.

@@ -6,5 +6,5 @@ mod places;
 #[cfg(test)]
 mod tests;
 
-pub use bytes::{half, put_word, quad, signed, signed_quad, word};
-pub use places::place_within;
+pub use bytes::{half, put_word, quad, signed, word};
+pub use places::{place_below, place_within};

@@ -12,8 +12,8 @@ pub fn place_within(size: usize, place: i64, count: u8) -> Option<u32>
     }
 }
 
-// The same of a place that isn't before the image.
-fn place_below(size: usize, place: u64, count: u8) -> Option<u32>
+/// The same of a place that isn't before the image.
+pub fn place_below(size: usize, place: u64, count: u8) -> Option<u32>
     requires { size ≤ 2 ^ 29 }
     ensures { result ≡ (if nat_le (place + count) size then Some place else None) }
 {

@@ -10,8 +10,6 @@ fn numbers_are_read(rt: HostRuntime) {
     assert_eq!(rt; signed(&bytes, 0), 0x8403_0201 - 0x1_0000_0000);
     assert_eq!(rt; signed(&bytes, 4), -1);
     assert_eq!(rt; signed(&bytes, 6), 0x7ffe_ffff);
-    assert_eq!(rt; signed_quad(&bytes, 1), -0x0100_0000_007b_fcfe);
-    assert_eq!(rt; signed_quad(&bytes, 2), 0x7ffe_ffff_ffff_8403);
 }
 
 #[test]
@@ -28,5 +26,7 @@ fn places_lie_within(rt: HostRuntime) {
     assert_eq!(rt; place_within(8, 8, 0), Some(8));
     assert_eq!(rt; place_within(8, 9, 0), None);
     assert_eq!(rt; place_within(8, -1, 4), None);
+    assert_eq!(rt; place_below(8, 4, 4), Some(4));
+    assert_eq!(rt; place_below(8, 0xffff_ffff_ffff_ffff, 4), None);
     assert_eq!(rt; place_within(8, 0x7fff_ffff_ffff_ffff, 255), None);
 }

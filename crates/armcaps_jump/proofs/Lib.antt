@@ -1,0 +1,4 @@
+-- Lemmas, by subject.
+pub mod Refusing
+pub mod Putting
+pub mod Sorting

@@ -1,0 +1,6 @@
+-- What the contracts of this crate cite.
+pub mod Entries
+pub mod Words
+pub mod Refusals
+pub mod Jumped
+pub mod Standing
