@@ -3,7 +3,7 @@ use Rattle.std.proofs.Common.{◌≡◌, ℕ, ◌+◌, ◌-◌, ◌*◌, ◌/◌
 use Rattle.std.proofs.lemmas.Nat.{mod_below}
 use Rattle.armcaps_insn.specs.Immediates.{immediate, with_offset}
 use Rattle.armcaps_insn.specs.Moved.{corrected}
-use Rattle.armcaps_generate.specs.LargeImage.{word_of}
+use Rattle.armcaps_generate.specs.LargeImage.{instruction_word}
 use Rattle.armcaps_generate.specs.declared.instruction.Instruction.{Instruction}
 use Rattle.armcaps_generate.specs.declared.instruction.Instruction.TheVariants.{Move, Call, Page, Nop}
 use Rattle.armcaps_generate.proofs.MovedWords.{IsCorrected, call_fits, call_moves, move_stays, no_operation_stays, page_fits, page_moves}
@@ -16,8 +16,8 @@ call_small : (target from a b : ℕ) → target ≡ 4 * a → from ≡ 4 * b →
 call_small target from a b target_is from_is few_a few_b = rw (target_is, from_is) (call_fits a b few_a few_b)
 
 -- each word can move
-pub word_moves : (instruction : Instruction) (from to low high : ℕ) → from % 4 ≡ 0 → to % 4 ≡ 0 → from < 2 ^ 22 → to < 2 ^ 22 → IsCorrected (corrected (word_of from instruction) from to low high)
-unfolding word_of
+pub word_moves : (instruction : Instruction) (from to low high : ℕ) → from % 4 ≡ 0 → to % 4 ≡ 0 → from < 2 ^ 22 → to < 2 ^ 22 → IsCorrected (corrected (instruction_word from instruction) from to low high)
+unfolding instruction_word
 word_moves (Move number) from to low high f t few near = (0x52800000 + 32 * (number % 65536), move_stays (number % 65536) from to low high (mod_below number 65536 (lit< tt)))
 word_moves (Call number) from to low high f t few near =
     let small = mod_below number 1000 (lit< tt) in
@@ -27,8 +27,8 @@ word_moves (Page number) from to low high f t few near =
     page_moves (number % 512) from to low high (omega (arith, small)) (omega (arith, few)) (omega (arith, near))
 word_moves Nop from to low high f t few near = (0xd503201f, no_operation_stays from to low high)
 
-pub word_small : (instruction : Instruction) (from : ℕ) → from % 4 ≡ 0 → from < 2 ^ 22 → word_of from instruction < 2 ^ 32
-unfolding word_of
+pub word_small : (instruction : Instruction) (from : ℕ) → from % 4 ≡ 0 → from < 2 ^ 22 → instruction_word from instruction < 2 ^ 32
+unfolding instruction_word
 word_small (Move number) from f few = let small = mod_below number 65536 (lit< tt) in omega (arith, small)
 word_small (Call number) from f few =
     let small = mod_below number 1000 (lit< tt) in

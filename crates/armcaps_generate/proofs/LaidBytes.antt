@@ -5,6 +5,7 @@ use Rattle.std.proofs.lemmas.List.{get_or-append-add}
 use Rattle.std.proofs.lemmas.List.Concat.{flat_map-cons}
 use Rattle.std.specs.Int.{to_le_bytes, w32}
 use Rattle.std.specs.List.{flat_map}
+use Rattle.armcaps_image.specs.Bytes.{word_in}
 
 -- a piece lies in a list at a place
 pub record HasAt (whole piece : List ℕ) (place : ℕ) : Type 0 where
@@ -65,3 +66,16 @@ dropped whole piece place has = ap (λ (n : ℕ). drop n whole) (sym has.size) �
 
 pub read_at : (whole piece : List ℕ) (place : ℕ) → (has : HasAt whole piece place) → (i : ℕ) → get_or whole (place + i) 0 ≡ get_or (piece ++ has.after) i 0
 read_at whole piece place has i = ap (λ (n : ℕ). get_or whole (n + i) 0) (sym has.size) ∙ ap (λ (bytes : List ℕ). get_or bytes (length has.before + i) 0) has.parts ∙ get_or-append-add has.before (piece ++ has.after) i 0
+
+-- a number of four bytes
+pub word_read : (number : ℕ) (after : List ℕ) → number < 2 ^ 32 → word_in (to_le_bytes w32 number ++ after) 0 ≡ number
+word_read number after small = omega arith
+
+-- read where it lies
+pub word_at_place : (whole : List ℕ) (number place : ℕ) → number < 2 ^ 32 → HasAt whole (to_le_bytes w32 number) place → word_in whole place ≡ number
+word_at_place whole number place small has =
+    let zeroth : get_or whole place 0 ≡ get_or (to_le_bytes w32 number ++ has.after) 0 0 = (let same : place + 0 ≡ place = omega arith in ap (λ (n : ℕ). get_or whole n 0) (sym same) ∙ read_at whole (to_le_bytes w32 number) place has 0) in
+    let first = read_at whole (to_le_bytes w32 number) place has 1 in
+    let second = read_at whole (to_le_bytes w32 number) place has 2 in
+    let third : get_or whole (place + 2 + 1) 0 ≡ get_or (to_le_bytes w32 number ++ has.after) 3 0 = (let same : place + 2 + 1 ≡ place + 3 = omega arith in ap (λ (n : ℕ). get_or whole n 0) same ∙ read_at whole (to_le_bytes w32 number) place has 3) in
+    omega (arith, zeroth, first, second, third, word_read number has.after small)

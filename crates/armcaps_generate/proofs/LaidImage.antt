@@ -1,5 +1,5 @@
 -- Where the bytes of a generated image lie.
-use Rattle.std.proofs.Common.{◌≡◌, ℕ, ◌+◌, ◌-◌, ◌*◌, ◌<◌, ◌≤◌, List, [], ◌++◌, length, replicate, refl, ap, subst, ◌∙◌, arith, get_or, length-append, lit<}
+use Rattle.std.proofs.Common.{◌≡◌, ℕ, ◌+◌, ◌-◌, ◌*◌, ◌^◌, ◌<◌, ◌≤◌, List, [], ◌++◌, length, replicate, refl, ap, subst, ◌∙◌, arith, get_or, length-append, lit<}
 use Rattle.std.specs.Int.{to_le_bytes, w32}
 use Rattle.std.specs.List.{All, enumerate_from, flat_map}
 use Rattle.std.proofs.lemmas.List.{get_or-map, length-map, length-replicate}
@@ -8,11 +8,13 @@ use Rattle.std.proofs.lemmas.Nat.{mod_below}
 use Rattle.armcaps_generate.specs.Alternatives.{Alternative, alternative_drawn, generated_alternatives}
 use Rattle.armcaps_generate.specs.Cores.{others_drawn}
 use Rattle.armcaps_generate.specs.Draws.{number_drawn}
-use Rattle.armcaps_generate.specs.LargeImage.{entry_bytes, image_of, laid, no_operation, replacement_bytes, replacement_place, site_bytes, slot, word_of, words_of, zeros}
+use Rattle.armcaps_generate.specs.LargeImage.{entry_bytes, image_of, laid, no_operation, replacement_bytes, replacement_place, site_bytes, slot, instruction_word, instruction_words, zeros}
 use Rattle.armcaps_generate.specs.declared.instruction.Instruction.{Instruction}
 use Rattle.armcaps_generate.specs.declared.instruction.Instruction.TheVariants.{Nop}
 use Rattle.armcaps_generate.proofs.Drawing.{each_drawn, few_instructions, length-several}
-use Rattle.armcaps_generate.proofs.LaidBytes.{HasAt, at_same, in_back, in_front, length-pieces, pieces_at}
+use Rattle.armcaps_generate.proofs.LaidBytes.{HasAt, inside, word_at_place, at_same, in_back, in_front, length-pieces, pieces_at}
+use Rattle.armcaps_image.specs.Bytes.{word_in}
+use Rattle.armcaps_generate.proofs.DrawnWords.{word_small}
 
 -- what holds of each alternative that is drawn
 pub record IsDrawn (alternative : Alternative) : Type 0 where
@@ -40,7 +42,7 @@ length-slot words few =
     let full = length-pieces (to_le_bytes w32) 4 words 0 (λ j lt. refl) in
     omega (arith, few, full, length-append (flat_map (to_le_bytes w32) words) (zeros (32 - 4 * length words)), length-zeros (32 - 4 * length words))
 
-pub length-words : (place : ℕ) (instructions : List Instruction) → length (words_of place instructions) ≡ length instructions
+pub length-words : (place : ℕ) (instructions : List Instruction) → length (instruction_words place instructions) ≡ length instructions
 length-words place instructions = length-map (enumerate_from 0 instructions) _ ∙ length-enumerate_from 0 instructions
 
 pub length-entry : (index : ℕ) (alternative : Alternative) → IsDrawn alternative → length (entry_bytes index alternative) ≡ 12
@@ -50,7 +52,7 @@ pub length-site : (index : ℕ) (alternative : Alternative) → IsDrawn alternat
 length-site index alternative drawn = length-slot (replicate (length alternative.instructions) no_operation) (omega (arith, drawn.few, length-replicate (length alternative.instructions) no_operation))
 
 pub length-replacement : (index : ℕ) (alternative : Alternative) → IsDrawn alternative → length (replacement_bytes index alternative) ≡ 32
-length-replacement index alternative drawn = length-slot (words_of (replacement_place index) alternative.instructions) (omega (arith, drawn.few, length-words (replacement_place index) alternative.instructions))
+length-replacement index alternative drawn = length-slot (instruction_words (replacement_place index) alternative.instructions) (omega (arith, drawn.few, length-words (replacement_place index) alternative.instructions))
 
 -- the bytes of one alternative among those of all
 pub laid_at : (bytes : ℕ → Alternative → List ℕ) (size : ℕ) (alternatives : List Alternative) (k : ℕ) (d : Alternative) → ((index : ℕ) (alternative : Alternative) → IsDrawn alternative → length (bytes index alternative) ≡ size) → All IsDrawn alternatives → k < length alternatives → HasAt (laid bytes alternatives) (bytes k (get_or alternatives k d)) (size * k)
@@ -74,12 +76,12 @@ length-laid bytes size alternatives sizes all =
     ∙ ap (λ (n : ℕ). size * n) many
 
 -- a word among the words of instructions
-pub words_at : (place : ℕ) (instructions : List Instruction) (j : ℕ) → j < length instructions → get_or (words_of place instructions) j 0 ≡ word_of (place + 4 * j) (get_or instructions j Nop)
+pub words_at : (place : ℕ) (instructions : List Instruction) (j : ℕ) → j < length instructions → get_or (instruction_words place instructions) j 0 ≡ instruction_word (place + 4 * j) (get_or instructions j Nop)
 words_at place instructions j within =
     let plain : 0 + j ≡ j = omega arith in
-    get_or-map (λ (each : ℕ × Instruction). word_of (place + 4 * each.0) each.1) (enumerate_from 0 instructions) j (0, Nop) 0 (omega (arith, within, length-enumerate_from 0 instructions))
-    ∙ ap (λ (e : ℕ × Instruction). word_of (place + 4 * e.0) e.1) (get_or-enumerate_from 0 instructions j (0, Nop) within)
-    ∙ ap (λ (n : ℕ). word_of (place + 4 * n) (get_or instructions j Nop)) plain
+    get_or-map (λ (each : ℕ × Instruction). instruction_word (place + 4 * each.0) each.1) (enumerate_from 0 instructions) j (0, Nop) 0 (omega (arith, within, length-enumerate_from 0 instructions))
+    ∙ ap (λ (e : ℕ × Instruction). instruction_word (place + 4 * e.0) e.1) (get_or-enumerate_from 0 instructions j (0, Nop) within)
+    ∙ ap (λ (n : ℕ). instruction_word (place + 4 * n) (get_or instructions j Nop)) plain
 
 -- the image of 20,000 alternatives, each of which can be drawn
 pub record IsWhole (alternatives : List Alternative) : Type 0 where
@@ -148,3 +150,16 @@ replacement_has alternatives is index d within =
 -- a word of a slot
 pub slot_has : (words : List ℕ) (j : ℕ) → j < length words → HasAt (slot words) (to_le_bytes w32 (get_or words j 0)) (4 * j)
 slot_has words j within = in_back (flat_map (to_le_bytes w32) words) (zeros (32 - 4 * length words)) (to_le_bytes w32 (get_or words j 0)) (4 * j) (pieces_at (to_le_bytes w32) 4 words j 0 (λ k lt. refl) within)
+
+-- what stands in the image at a word of a replacement
+pub word_there : (alternatives : List Alternative) → IsWhole alternatives → (index j : ℕ) (d : Alternative) → index < 20000 → j < length (get_or alternatives index d).instructions → word_in (image_of alternatives) (1_048_576 + 32 * index + 4 * j) ≡ instruction_word (1_048_576 + 32 * index + 4 * j) (get_or (get_or alternatives index d).instructions j Nop)
+word_there alternatives is index j d within inner =
+    let instructions : List Instruction = (get_or alternatives index d).instructions in
+    let place : ℕ = 1_048_576 + 32 * index in
+    let drawn = is.each index d (omega (arith, within, is.count)) in
+    let words : List ℕ = instruction_words place instructions in
+    let at : get_or words j 0 ≡ instruction_word (place + 4 * j) (get_or instructions j Nop) = words_at place instructions j inner in
+    let small : instruction_word (place + 4 * j) (get_or instructions j Nop) < 2 ^ 32 = word_small (get_or instructions j Nop) (place + 4 * j) (omega arith) (omega (arith, within, inner, drawn.few)) in
+    let has = inside (image_of alternatives) (slot words) (to_le_bytes w32 (get_or words j 0)) place (4 * j) (replacement_has alternatives is index d within) (slot_has words j (omega (arith, inner, length-words place instructions))) in
+    word_at_place (image_of alternatives) (instruction_word (place + 4 * j) (get_or instructions j Nop)) (place + 4 * j) small
+    (subst (λ (n : ℕ). HasAt (image_of alternatives) (to_le_bytes w32 n) (place + 4 * j)) at has)

@@ -4,7 +4,7 @@ use Rattle.std.specs.List.{enumerate_from, flat_map}
 use Rattle.std.proofs.lemmas.List.{flat_map_more, length-map, length-take-le, map_push, take_more}
 use Rattle.std.proofs.lemmas.List.FromFn.{length-enumerate_from}
 use Rattle.armcaps_generate.specs.Alternatives.{Alternative}
-use Rattle.armcaps_generate.specs.LargeImage.{laid, word_of, words_of}
+use Rattle.armcaps_generate.specs.LargeImage.{laid, instruction_word, instruction_words}
 use Rattle.armcaps_generate.specs.declared.instruction.Instruction.{Instruction}
 
 enumerate-push : {X : Type 0} (n : ℕ) (xs : List X) (y : X) → enumerate_from n (xs ++ y ∷ []) ≡ enumerate_from n xs ++ (n + length xs, y) ∷ []
@@ -27,11 +27,11 @@ laid-more bytes alternatives index d image now within so_far =
     ∙ ap (λ (es : List (ℕ × Alternative)). image ++ flat_map (λ each. bytes each.0 each.1) es) (sym (enumerate-more alternatives index d within))
 
 -- one more word
-pub words-more : (place : ℕ) (instructions : List Instruction) (index : ℕ) (d : Instruction) (now : List ℕ) → index < length instructions → now ≡ words_of place (take index instructions) → now ++ word_of (place + 4 * index) (get_or instructions index d) ∷ [] ≡ words_of place (take (index + 1) instructions)
+pub words-more : (place : ℕ) (instructions : List Instruction) (index : ℕ) (d : Instruction) (now : List ℕ) → index < length instructions → now ≡ instruction_words place (take index instructions) → now ++ instruction_word (place + 4 * index) (get_or instructions index d) ∷ [] ≡ instruction_words place (take (index + 1) instructions)
 words-more place instructions index d now within so_far =
-    ap (λ (old : List ℕ). old ++ word_of (place + 4 * index) (get_or instructions index d) ∷ []) so_far
-    ∙ sym (map_push (λ (each : ℕ × Instruction). word_of (place + 4 * each.0) each.1) (enumerate_from 0 (take index instructions)) (index, get_or instructions index d))
-    ∙ ap (λ (es : List (ℕ × Instruction)). map (λ each. word_of (place + 4 * each.0) each.1) es) (sym (enumerate-more instructions index d within))
+    ap (λ (old : List ℕ). old ++ instruction_word (place + 4 * index) (get_or instructions index d) ∷ []) so_far
+    ∙ sym (map_push (λ (each : ℕ × Instruction). instruction_word (place + 4 * each.0) each.1) (enumerate_from 0 (take index instructions)) (index, get_or instructions index d))
+    ∙ ap (λ (es : List (ℕ × Instruction)). map (λ each. instruction_word (place + 4 * each.0) each.1) es) (sym (enumerate-more instructions index d within))
 
-pub length-words : (place : ℕ) (instructions : List Instruction) → length (words_of place instructions) ≡ length instructions
+pub length-words : (place : ℕ) (instructions : List Instruction) → length (instruction_words place instructions) ≡ length instructions
 length-words place instructions = length-map (enumerate_from 0 instructions) _ ∙ length-enumerate_from 0 instructions

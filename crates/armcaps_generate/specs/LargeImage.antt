@@ -16,17 +16,17 @@ no_operation = 0xd503201f
 
 -- the word of an instruction at a place: MOVZ W0 of the lower 16 bits of a number, BL to one of the first 1,000 words
 -- of the sites, ADRP X0 of one of the first 512 pages, or NOP
-unfoldable pub word_of : ℕ → Instruction → ℕ
-word_of place (Move number) = 0x52800000 + 32 * (number % 65536)
-word_of place (Call number) =
+unfoldable pub instruction_word : ℕ → Instruction → ℕ
+instruction_word place (Move number) = 0x52800000 + 32 * (number % 65536)
+instruction_word place (Call number) =
     with_offset (immediate 0x03ffffff 0 26 0 2) 0x94000000 (pos (262_144 + 4 * (number % 1000)) -ℤ pos place)
-word_of place (Page number) =
+instruction_word place (Page number) =
     with_offset (immediate 0x60ffffe0 5 19 2 12) 0x90000000 (pos (4096 * (number % 512)) -ℤ pos (place / 4096 * 4096))
-word_of place Nop = no_operation
+instruction_word place Nop = no_operation
 
 -- the words of instructions from a place on
-abbrev pub words_of : ℕ → List Instruction → List ℕ
-words_of place instructions = map (λ each. word_of (place + 4 * each.0) each.1) (enumerate_from 0 instructions)
+abbrev pub instruction_words : ℕ → List Instruction → List ℕ
+instruction_words place instructions = map (λ each. instruction_word (place + 4 * each.0) each.1) (enumerate_from 0 instructions)
 
 -- so many zeros
 unfoldable pub zeros : ℕ → List ℕ
@@ -63,7 +63,7 @@ site_bytes index alternative = slot (replicate (length alternative.instructions)
 
 -- the replacement: the words of its instructions
 abbrev pub replacement_bytes : ℕ → Alternative → List ℕ
-replacement_bytes index alternative = slot (words_of (replacement_place index) alternative.instructions)
+replacement_bytes index alternative = slot (instruction_words (replacement_place index) alternative.instructions)
 
 -- the bytes of each alternative by its index, one after the other
 abbrev pub laid : (ℕ → Alternative → List ℕ) → List Alternative → List ℕ

@@ -2,7 +2,7 @@
 ghost use Rattle.std.specs.Prelude.{◌≡◌, ◌+◌, ◌*◌, ◌%◌, ◌^◌, ◌<◌, ◌≤◌, ◌++◌, ◌-ℤ◌, pos, IfOk, OnOk, length};
 ghost use Rattle.std.specs.List.{All};
 ghost use Rattle.armcaps_insn.specs.Immediates.{immediate, with_offset};
-ghost use Rattle.armcaps_generate.specs.LargeImage.{entry_bytes, image_of, laid, replacement_bytes, site_bytes, slot, word_of, words_of, zeros};
+ghost use Rattle.armcaps_generate.specs.LargeImage.{entry_bytes, image_of, laid, replacement_bytes, site_bytes, slot, instruction_word, instruction_words, zeros};
 
 use crate::alternative::Alternative;
 use crate::instruction::Instruction;
@@ -37,12 +37,12 @@ fn address(own: u32, page: u32) -> u32
 }
 
 // The word of an instruction at a place of a replacement.
-#[tactic(auto, unfolding(crate::specs::LargeImage::word_of))]
-fn word_of(place: u32, instruction: Instruction) -> u32
+#[tactic(auto, unfolding(crate::specs::LargeImage::instruction_word))]
+fn instruction_word(place: u32, instruction: Instruction) -> u32
     requires aligned { place % 4 ≡ 0 }
     requires low { 1_048_576 ≤ place }
     requires high { place < 2 ^ 21 }
-    ensures { result ≡ word_of place instruction }
+    ensures { result ≡ instruction_word place instruction }
 {
     match instruction {
         Instruction::Move(number) => 0x5280_0000 + 32 * (number % 65_536),
@@ -53,15 +53,15 @@ fn word_of(place: u32, instruction: Instruction) -> u32
 }
 
 // The words of instructions from a place of a replacement on.
-fn words_of(alloc: Global, place: u32, instructions: &[Instruction]) -> Result<Vec<u32>, AllocError>
+fn instruction_words(alloc: Global, place: u32, instructions: &[Instruction]) -> Result<Vec<u32>, AllocError>
     requires aligned { place % 4 ≡ 0 }
     requires low { 1_048_576 ≤ place }
     requires high { place + 4 * length instructions.now ≤ 2 ^ 21 }
-    ensures { IfOk result (λ words. words.items ≡ words_of place instructions.now) }
+    ensures { IfOk result (λ words. words.items ≡ instruction_words place instructions.now) }
 {
     let mut words = Vec::new(alloc);
     for index in 0..instructions.len() {
-        words.push(word_of(place + 4 * index as u32, instructions[index]))?;
+        words.push(instruction_word(place + 4 * index as u32, instructions[index]))?;
     }
     Ok(words)
 }
@@ -126,7 +126,7 @@ fn push_replacement(
     requires few { length alternative.now.instructions ≤ 4 }
     ensures { OnOk result (image.new.items ≡ image.old.items ++ replacement_bytes index alternative.now) }
 {
-    let words = words_of(alloc, 1_048_576 + 32 * index, &alternative.instructions)?;
+    let words = instruction_words(alloc, 1_048_576 + 32 * index, &alternative.instructions)?;
     push_slot(image, &words)
 }
 

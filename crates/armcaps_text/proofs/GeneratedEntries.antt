@@ -1,5 +1,5 @@
 -- No entry of a generated image is refused.
-use Rattle.std.proofs.Common.{◌≡◌, ℕ, zero, suc, ◌+◌, ◌-◌, ◌*◌, ◌/◌, ◌%◌, ◌^◌, ◌<◌, ◌≤◌, ◌==◌, ◌&&◌, ◌||◌, not, nat_le, ℤ, pos, ◌+ℤ◌, ◌-ℤ◌, Bool, true, false, cond, List, [], ◌∷◌, ◌++◌, length, map, find, drop, Option, Some, None, option_map, Result, Ok, Ok, refl, ap, subst, ◌∙◌, arith, get_or, sym}
+use Rattle.std.proofs.Common.{◌≡◌, ℕ, zero, suc, ◌+◌, ◌-◌, ◌*◌, ◌/◌, ◌%◌, ◌^◌, ◌<◌, ◌≤◌, ◌==◌, ◌&&◌, ◌||◌, not, nat_le, ℤ, pos, ◌+ℤ◌, ◌-ℤ◌, Bool, true, false, cond, List, [], ◌∷◌, ◌++◌, length, map, find, drop, Option, Some, None, option_map, Result, Ok, Ok, refl, ap, subst, ◌∙◌, arith, get_or}
 use Rattle.std.specs.Int.{to_le_bytes, w16, w32}
 use Rattle.std.specs.List.{list_any, range_with_len}
 use Rattle.std.specs.Ordering.{int_eq}
@@ -21,39 +21,12 @@ use Rattle.armcaps_insn.specs.declared.correction.FixRefused.{FixRefused}
 use Rattle.armcaps_insn.specs.Moved.{corrected}
 use Rattle.armcaps_generate.specs.Alternatives.{Alternative, generated_alternatives}
 use Rattle.armcaps_text.specs.Generator.{generated_names, generated_reading}
-use Rattle.armcaps_generate.specs.LargeImage.{entry_bytes, generated_image, image_of, slot, word_of, words_of}
-use Rattle.armcaps_generate.specs.declared.instruction.Instruction.{Instruction}
+use Rattle.armcaps_generate.specs.LargeImage.{entry_bytes, generated_image, image_of}
 use Rattle.armcaps_generate.specs.declared.instruction.Instruction.TheVariants.{Nop}
-use Rattle.armcaps_generate.proofs.LaidBytes.{HasAt, dropped, inside, read_at}
-use Rattle.armcaps_generate.proofs.LaidImage.{IsDrawn, IsWhole, entry_has, length-image, length-words, replacement_has, slot_has, whole_drawn, words_at}
+use Rattle.armcaps_generate.proofs.LaidBytes.{dropped}
+use Rattle.armcaps_generate.proofs.LaidImage.{word_there, IsDrawn, IsWhole, entry_has, length-image, whole_drawn}
 use Rattle.armcaps_generate.proofs.MovedWords.{IsCorrected}
-use Rattle.armcaps_generate.proofs.DrawnWords.{word_moves, word_small}
-
--- a number of four bytes
-pub word_read : (number : ℕ) (after : List ℕ) → number < 2 ^ 32 → word_in (to_le_bytes w32 number ++ after) 0 ≡ number
-word_read number after small = omega arith
-
--- read where it lies
-pub word_at_place : (whole : List ℕ) (number place : ℕ) → number < 2 ^ 32 → HasAt whole (to_le_bytes w32 number) place → word_in whole place ≡ number
-word_at_place whole number place small has =
-    let zeroth : get_or whole place 0 ≡ get_or (to_le_bytes w32 number ++ has.after) 0 0 = (let same : place + 0 ≡ place = omega arith in ap (λ (n : ℕ). get_or whole n 0) (sym same) ∙ read_at whole (to_le_bytes w32 number) place has 0) in
-    let first = read_at whole (to_le_bytes w32 number) place has 1 in
-    let second = read_at whole (to_le_bytes w32 number) place has 2 in
-    let third : get_or whole (place + 2 + 1) 0 ≡ get_or (to_le_bytes w32 number ++ has.after) 3 0 = (let same : place + 2 + 1 ≡ place + 3 = omega arith in ap (λ (n : ℕ). get_or whole n 0) same ∙ read_at whole (to_le_bytes w32 number) place has 3) in
-    omega (arith, zeroth, first, second, third, word_read number has.after small)
-
--- what stands in the image at a word of a replacement
-word_there : (alternatives : List Alternative) → IsWhole alternatives → (index j : ℕ) (d : Alternative) → index < 20000 → j < length (get_or alternatives index d).instructions → word_in (image_of alternatives) (1_048_576 + 32 * index + 4 * j) ≡ word_of (1_048_576 + 32 * index + 4 * j) (get_or (get_or alternatives index d).instructions j Nop)
-word_there alternatives is index j d within inner =
-    let instructions : List Instruction = (get_or alternatives index d).instructions in
-    let place : ℕ = 1_048_576 + 32 * index in
-    let drawn = is.each index d (omega (arith, within, is.count)) in
-    let words : List ℕ = words_of place instructions in
-    let at : get_or words j 0 ≡ word_of (place + 4 * j) (get_or instructions j Nop) = words_at place instructions j inner in
-    let small : word_of (place + 4 * j) (get_or instructions j Nop) < 2 ^ 32 = word_small (get_or instructions j Nop) (place + 4 * j) (omega arith) (omega (arith, within, inner, drawn.few)) in
-    let has = inside (image_of alternatives) (slot words) (to_le_bytes w32 (get_or words j 0)) place (4 * j) (replacement_has alternatives is index d within) (slot_has words j (omega (arith, inner, length-words place instructions))) in
-    word_at_place (image_of alternatives) (word_of (place + 4 * j) (get_or instructions j Nop)) (place + 4 * j) small
-    (subst (λ (n : ℕ). HasAt (image_of alternatives) (to_le_bytes w32 n) (place + 4 * j)) at has)
+use Rattle.armcaps_generate.proofs.DrawnWords.{word_moves}
 
 -- a number below 2 ^ 31 as one in two's complement
 signed_read : (bytes : List ℕ) (place number : ℕ) → word_in bytes place ≡ number → number < 2 ^ 31 → signed_in bytes place ≡ pos number

@@ -36,3 +36,6 @@ text_blank line h =
     let far = position_none no_space line h in
     let all : drop (position_or_len no_space line) line ≡ [] = grind (arith, common_steps) in
     ap (after_first is_space) all
+
+-- what is known of what stands after the first token
+pub ruleset text_after = (text_some, text_none, text_blank)
