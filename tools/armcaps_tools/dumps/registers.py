@@ -75,7 +75,7 @@ def second_column(behind, word, place, name):
     """Whether the number stands behind itself once more, as gdb's in decimal. Another number is refused."""
     repeated = False
     for token in re.split(r"[\s,;|()\[\]{}\"'=:]+", REMARK.split(behind, maxsplit=1)[0]):
-        if not token or not HEXADECIMAL.fullmatch(token):
+        if not HEXADECIMAL.fullmatch(token.lstrip("-")):
             continue
         if same(token, word):
             repeated = True
@@ -88,5 +88,8 @@ def second_column(behind, word, place, name):
 
 
 def same(token, word):
+    """Whether a number is this one once more, in hexadecimal or decimal; gdb's may be signed."""
     plain = token.replace("_", "")
-    return int(plain, 16) == word if plain[:2] in ("0x", "0X") else plain.isdigit() and int(plain) == word
+    if plain[:2] in ("0x", "0X"):
+        return int(plain, 16) == word
+    return plain.lstrip("-").isdigit() and int(plain) in (word, word - (1 << 64), word - (1 << 32))
