@@ -67,7 +67,7 @@ class Dump:
             return
         if OUTPUT.match(lines[first].text):
             raise Refused(f"{self.name}: {hints.hint(lines[first].text)}")
-        self.is_text = bool(HEADER.match(lines[first].text.strip()))
+        self.is_text = any(HEADER.match(line.text.strip()) for line in lines)
         for line in lines:
             if line.text.strip() and not self.line(line):
                 self.skipped.append((line.count, line.text.strip()))
