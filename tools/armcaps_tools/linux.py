@@ -143,7 +143,7 @@ def is_falkor_or_kryo(midr):
 
 
 def has_lpa2(facts):
-    """LPA2 for pages of 4 KiB at both stages: TGRAN4 is 1, and TGRAN4_2, bits 43:40 of the register, is 3 on each core."""
+    """LPA2 for pages of 4 KiB at both stages: TGRAN4 is 1, and TGRAN4_2, bits 43:40 of its register, is 3 on each."""
     stage2 = all(core.get("id_aa64mmfr0_el1", 0) >> 40 & 15 == 3 for core in facts.early)
     return facts.value("id_aa64mmfr0.tgran4") == 1 and stage2
 

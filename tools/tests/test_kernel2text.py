@@ -25,7 +25,7 @@ def run(*command, given=None):
 
 
 def vmlinux(image, symbols, table):
-    """An ELF64 file with a section for the image before its table, one for the table, and one of no bytes behind them."""
+    """An ELF64 file with a section for the image before its table, one for the table, and one of no bytes behind."""
     base, begin = symbols["_text"], table - symbols["_text"]
     names = b"\0.text\0.altinstructions\0.bss\0.symtab\0.strtab\0.shstrtab\0"
     strings, entries = b"\0", b"\0" * 24

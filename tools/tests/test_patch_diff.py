@@ -1,4 +1,5 @@
-"""What patch-diff tells of the small kernel in examples/patching. Run by tools/check, which names the program by $ARMCAPS."""
+"""What patch-diff tells of the small kernel in examples/patching. Run by tools/check, which names the program by
+$ARMCAPS."""
 
 import os
 import pathlib

@@ -1,0 +1,27 @@
+"""Writes what came out into docs/AGAINST-LINUX.md."""
+
+from real_kernel.page import replace, table
+
+
+def write(results):
+    replace("linux-source", "\n".join(paragraphs(results)))
+
+
+def paragraphs(results):
+    """The paragraphs and the table of classes."""
+    for version, result in results.items():
+        unknown = sum(count for name, count in result["classes"].items() if name.startswith("unknown"))
+        seen = [count for count in result["wrong"].values() if count]
+        yield (
+            f"{result['release']}: {result['machines']:,} random machines; {unknown} differences without a class. "
+            f"{len(seen)} of {len(result['wrong'])} wrong kernels were seen, each within\n{max(seen)} machines.\n"
+        )
+    names = sorted({name for result in results.values() for name in result["classes"]})
+    names = [name for name in names if not name.startswith("unknown")]
+    head = ["class of difference", *(f"machines with it, of {version}" for version in results)]
+    rows = [[name, *(f"{result['classes'].get(name, 0):,}" for result in results.values())] for name in names]
+    yield table(head, rows)
+    yield "The wrong kernels, each with one change in the kernel's own code, and within how many machines it was seen:\n"
+    wrong = list(next(iter(results.values()))["wrong"])
+    rows = [[name, *(result["wrong"][name] for result in results.values())] for name in wrong]
+    yield table(["wrong kernel", *results], rows)

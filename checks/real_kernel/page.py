@@ -1,0 +1,93 @@
+"""Writes what came out into docs/AGAINST-LINUX.md, between the marks of each check."""
+
+import collections
+import pathlib
+import re
+
+from . import reasons
+
+PAGE = pathlib.Path(__file__).resolve().parent.parent.parent / "docs/AGAINST-LINUX.md"
+
+
+def table(head, rows):
+    lines = [head, ["---"] * len(head), *rows]
+    return "".join("| " + " | ".join(str(cell) for cell in line) + " |\n" for line in lines)
+
+
+def replace(check, text):
+    """Puts a check's text between its marks."""
+    page = PAGE.read_text(encoding="utf-8")
+    begin, end = f"<!-- written by checks/{check} -->\n\n", "\n<!-- as far as here -->"
+    parts = re.compile(re.escape(begin) + ".*?" + re.escape(end), re.DOTALL)
+    PAGE.write_text(parts.sub(lambda _: begin + text + end, page), encoding="utf-8")
+
+
+def write_real_kernel(results, controls, releases):
+    replace("real-kernel", "\n".join(real_kernel(results, controls, releases)))
+
+
+def real_kernel(results, controls, releases):
+    """The paragraphs and tables."""
+    total = lambda name: f"{sum(result[name] for result in results):,}"  # noqa: E731
+    count = lambda name: f"{sum(len(result[name]) for result in results):,}"  # noqa: E731
+    kept = collections.Counter()
+    for result in results:
+        kept.update(result["callbacks"])
+    boards_count = len({result["board"] for result in results})
+    yield f"{' and '.join(releases)} on {boards_count} boards each, four cores a board.\n"
+    yield (
+        f"- **{total('sites')} words of sites compared**, of which the kernels had changed {total('sites changed')}.\n"
+        f"  {sum(kept.values()):,} differ at the sites of callbacks, which are listed below, and {count('strange')} others.\n"
+        f"- {total('reads compared')} reads of the ID space compared.\n"
+        f"- **{len(results)} images for a boot**, with {total('boot words')} words changed, were booted: "
+        f"{count('new warnings')} warnings\n"
+        "  that the original does not give; hwcaps, reads and detected features the same on "
+        f"{total('boot same')}; all cores\n  but the first offline and online again on {total('cores back')}.\n"
+    )
+    for version, warnings in controls.items():
+        yield (
+            f"That this check sees: with Linux {version}, the image of a kernel that runs gave {warnings} warnings\n"
+            "when it was booted on Cortex-A72.\n"
+        )
+    yield from boards(results)
+    yield from differences(results)
+    yield "The callbacks at whose sites words differ:\n"
+    rows = sorted([name, f"{words:,}", reasons.reason_of_callback(name)] for name, words in kept.items())
+    yield table(["callback", "words, over all boards", "reason"], rows)
+
+
+def boards(results):
+    head = ["board", "kernel", "words", "changed by Linux", "differ", "at callbacks", "changed for a boot", "boot"]
+    rows = []
+    for result in results:
+        good = result["boot same"] and result["cores back"] and not result["new warnings"]
+        cells = [f"{result['sites']:,}", f"{result['sites changed']:,}", len(result["strange"])]
+        cells += [sum(result["callbacks"].values()), f"{result['boot words']:,}"]
+        cells.append("as the original" if good else "differs")
+        rows.append([result["board"], result["kernel"], *cells])
+    yield table(head, rows)
+
+
+def differences(results):
+    """Each reason once, with what differs and on how many boards."""
+    found = {}
+    for result in results:
+        told = [(text, reasons.reason(text)) for text in result["hwcaps"] + result["reads"]]
+        told += [(text, reasons.reason_of_number(text.split()[0])) for text in result["numbers"]]
+        for text, why in told:
+            names = found.setdefault(why or "**no reason is known**", {})
+            names.setdefault(short(text), set()).add((result["board"], result["kernel"]))
+    rows = []
+    for why, names in found.items():
+        most = max(len(boards) for boards in names.values())
+        rows.append([", ".join(sorted(names)), most, why])
+    yield "What differs in hwcaps, reads and numbers, on how many of the boards at most, and why:\n"
+    yield table(["what", "boards", "reason"], sorted(rows, key=lambda row: -row[1]))
+
+
+def short(text):
+    """What a difference is of, without its values."""
+    name = text.split()[0]
+    if name.startswith("S3_0_C0_C"):
+        return name[: len("S3_0_C0_C2")] + "_*"
+    return name if name != "HWCAP" else " ".join(text.split()[:3])
