@@ -2,3 +2,4 @@
 pub mod Refusing
 pub mod Putting
 pub mod Sorting
+pub mod Choosing

@@ -4,3 +4,4 @@ pub mod Words
 pub mod Refusals
 pub mod Jumped
 pub mod Standing
+pub mod Laws

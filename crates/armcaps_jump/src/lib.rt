@@ -7,6 +7,7 @@ mod judging;
 mod jump_entry;
 mod jumped;
 mod jumps;
+mod laws;
 mod nearby;
 mod refused;
 mod site;
@@ -15,4 +16,5 @@ mod tests;
 
 pub use jump_entry::JumpEntry;
 pub use jumps::Jumps;
+pub use laws::the_last_entry_chooses;
 pub use refused::JumpRefused;
