@@ -54,6 +54,7 @@ pub record Test : Type 0 where
   pub kind : PatchKind
   pub holds : Bool
 
+-- the test of this kind, which holds or not
 abbrev test : PatchKind → Bool → Test
 test kind holds = record { kind = kind; holds = holds }
 
@@ -85,6 +86,7 @@ refusal_by None names image entry = Some kind.UnknownCap
 refusal_by (Some false) names image entry = None
 refusal_by (Some true) names image entry = first_kind (tests_of names image entry)
 
+-- the least kind that holds of an entry, where these are the names and the enabled capabilities
 abbrev pub refusal_of : Features → List ℕ → Entry → Option PatchKind
 refusal_of features image entry =
     refusal_by (selection features.names features.enabled entry) features.names image entry

@@ -56,10 +56,11 @@ offset_in i word = twos_complement (offset_width i) (offset_bits i word) *ℤ po
 abbrev pub rest_in : Immediate → ℕ → ℕ
 rest_in i word = bit_and word (2 ^ 32 - 1 - i.mask)
 
--- the first and the last offset that the bits can stand for
+-- the first offset that the bits can stand for
 abbrev pub lowest_in : Immediate → ℤ
 lowest_in i = neg_ℤ (pos (2 ^ (offset_width i - 1) * 2 ^ i.scale))
 
+-- the last offset that the bits can stand for
 abbrev pub highest_in : Immediate → ℤ
 highest_in i = pos ((2 ^ (offset_width i - 1) - 1) * 2 ^ i.scale)
 

@@ -50,13 +50,14 @@ moved_word image kept index =
     let from = kept.repl + 4 * index in
     corrected (word_in image from) from (kept.site + 4 * index) kept.repl (kept.repl + kept.len)
 
--- the new word of a kept entry's site at an index
+-- the new word of a kept entry's site at an index: the callback's where there is one, and else the moved word
 abbrev pub kept_word_by : Option CallbackKind → ℕ → Conduit → List ℕ → Kept → ℕ → ℕ
 kept_word_by None ctr conduit image kept index =
     ok_or_word (moved_word image kept index) (word_in image (kept.site + 4 * index))
 kept_word_by (Some kind) ctr conduit image kept index =
     callback_word_of kind index ctr conduit (word_in image kept.site) (word_in image (kept.site + 4 * index))
 
+-- the new word of a kept entry's site at an index, by the entry's own callback
 abbrev pub kept_word : ℕ → Conduit → List ℕ → Kept → ℕ → ℕ
 kept_word ctr conduit image kept index = kept_word_by kept.callback ctr conduit image kept index
 

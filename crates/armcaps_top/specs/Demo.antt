@@ -42,6 +42,7 @@ words_covered image entries = count_by (λ index. list_any (covers (4 * index)) 
 abbrev pub is_changed : List ℕ → List ℕ → ℕ → Bool
 is_changed image patched index = not (word_in patched (4 * index) == word_in image (4 * index))
 
+-- how many words differ in two images
 abbrev pub words_changed : List ℕ → List ℕ → ℕ
 words_changed image patched = count_by (is_changed image patched) (range_with_len 0 (length image / 4))
 
@@ -62,22 +63,27 @@ counts_of found features image layout =
       sum = sum_of_words patched;
     }
 
--- the five lines
+-- the first line: the number and the count of cores that the words give
 abbrev pub title_line : ℕ → ℕ → List ℕ
 title_line seed cores = codes "armcaps demo " ++ decimal seed ++ codes " " ++ decimal cores ++ codes "\n"
 
+-- how many cores are admitted, and how many are parked
 abbrev pub cores_line : Counts → List ℕ
 cores_line counts = codes "admitted " ++ decimal counts.admitted ++ codes " parked " ++ decimal counts.parked ++ codes "\n"
 
+-- how many entries the table has, and how many of them are selected
 abbrev pub entries_line : Counts → List ℕ
 entries_line counts = codes "entries 20000 selected " ++ decimal counts.selected ++ codes "\n"
 
+-- how many words a selected site covers, and how many words are changed
 abbrev pub words_line : Counts → List ℕ
 words_line counts = codes "words " ++ decimal counts.covered ++ codes " changed " ++ decimal counts.changed ++ codes "\n"
 
+-- the sum of the patched image's words
 abbrev pub sum_line : Counts → List ℕ
 sum_line counts = codes "sum " ++ decimal counts.sum ++ codes "\n"
 
+-- the five lines of `demo`, by its words and what is counted
 unfoldable pub demo_lines : ℕ → ℕ → Counts → List ℕ
 demo_lines seed cores counts =
     title_line seed cores ++ cores_line counts ++ entries_line counts ++ words_line counts ++ sum_line counts

@@ -19,6 +19,7 @@ image_refusal image given =
     if nat_lt given image then Some (ImageShort given image)
     else if nat_lt image given then Some (Trailing (given - image)) else None
 
+-- the document, unless there is a reason to refuse it
 abbrev pub unless_refused : Option Refusal → Document → Result Document Refusal
 unless_refused None found = Ok found
 unless_refused (Some refusal) found = Err refusal
