@@ -17,17 +17,17 @@ past_of (Admitted late) = past_admitted late
 past_of (Offline late) = past_admitted late
 past_of _ = Never
 
--- was admitted before finalisation
+-- a core with this past was admitted before finalisation
 abbrev pub is_early_past : Past → Bool
 is_early_past Early = true
 is_early_past _ = false
 
--- was admitted after finalisation
+-- a core with this past was admitted after finalisation
 abbrev pub is_late_past : Past → Bool
 is_late_past Late = true
 is_late_past _ = false
 
--- was admitted
+-- a core with this past was ever admitted
 abbrev pub is_admitted_past : Past → Bool
 is_admitted_past Never = false
 is_admitted_past _ = true

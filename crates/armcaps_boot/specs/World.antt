@@ -33,6 +33,6 @@ state_at states number = slice_index_or states number Absent
 abbrev pub admitted_cores : Board → List CoreState → List Core
 admitted_cores board states = chosen (λ number. is_admitted (state_at states number)) board.cores
 
--- those of them that came before finalisation
+-- the cores that were admitted before finalisation, by the states of all cores, in rising number
 abbrev pub early_cores : Board → List CoreState → List Core
 early_cores board states = chosen (λ number. is_early (state_at states number)) board.cores

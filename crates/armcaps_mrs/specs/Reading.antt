@@ -25,7 +25,7 @@ abbrev pub is_emulated : ℕ → ℕ → ℕ → Bool
 is_emulated crn crm op2 =
     crn == 0 && ((nat_le 4 crm && nat_le crm 7) || (crm == 0 && (op2 == 0 || op2 == 5 || op2 == 6)))
 
--- the same of the register that has this number
+-- whether a read of the register that has this number is emulated, by its CRn, CRm and op2
 abbrev pub is_emulated_number : ℕ → Bool
 is_emulated_number id = is_emulated (id / 2 ^ 12 % 2 ^ 4) (id / 2 ^ 8 % 2 ^ 4) (id / 2 ^ 5 % 2 ^ 3)
 

@@ -16,6 +16,6 @@ features_of_findings found names = record {
   ctr = word_at (system_words found.board.overrides (early_cores found.board found.states)) CtrEl0;
 }
 
--- the same of a machine
+-- the capabilities that are enabled over the early cores of a machine, and their word of CTR_EL0
 abbrev pub features_of : World → NameLists → Features
 features_of world names = features_of_findings (findings_of world) names

@@ -56,7 +56,7 @@ abbrev pub register_lines : Findings → List ℕ
 register_lines found =
     flat_map (λ register. register_line register (system_word found.board.overrides (admitted_cores found.board found.states) register)) tracked
 
--- the same as users see them
+-- the registers as users see them, over the cores that were ever admitted
 abbrev pub user_lines : Findings → List ℕ
 user_lines found = flat_map (λ register. user_line register (user_word found.board.overrides (admitted_cores found.board found.states) register)) tracked
 

@@ -34,7 +34,7 @@ plain (Callback offset kind) = Callback offset kind
 plain (Table layout) = Table layout
 plain (Image length) = Image length
 
--- the same of a line that can be wrong
+-- a line, or what is wrong with it, with its texts as bytes
 abbrev pub plain_meaning : Result (Line (Bor (List ℕ))) TextKind → Result (Line (List ℕ)) TextKind
 plain_meaning (Ok line) = Ok (plain line)
 plain_meaning (Err kind) = Err kind

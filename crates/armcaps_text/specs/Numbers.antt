@@ -11,6 +11,6 @@ most_bytes token = if starts_with nat_eq token (codes "0x") then 18 else 20
 unfoldable pub number_of : List ℕ → Option ℕ
 number_of token = if nat_le (length token) (most_bytes token) then value_of token else None
 
--- the same where it is at most this
+-- the number that a token is, where it is at most this
 abbrev pub number_up_to : ℕ → List ℕ → Option ℕ
 number_up_to most token = option_and_then (λ number. if nat_le number most then Some number else None) (number_of token)
