@@ -24,7 +24,12 @@ pub fn begin(alloc: Global, machine: Machine) -> Result<(Boot, Vec<Event>, Names
     ensures names { IfOk result (λ made. made.2 ≡ machine.names) }
 {
     let events = events_of(alloc, &machine.steps)?;
-    let Ok(boot) = Boot::new(alloc, machine.board.cores, machine.board.boot, machine.board.overrides) else {
+    let Ok(boot) = Boot::new(
+        alloc,
+        machine.board.cores,
+        machine.board.boot,
+        machine.board.overrides,
+    ) else {
         return Err(AllocError);
     };
     machines_begin_with_no_step();

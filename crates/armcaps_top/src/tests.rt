@@ -3,7 +3,7 @@ mod rows;
 
 use crate::run;
 use armcaps_boot::{Boot, CoreState};
-use armcaps_io::{MemSink, MemSource, Source, SureSource};
+use armcaps_io::{InFault, MemSink, MemSource, Source, SureSource};
 use rows::{MACHINES, NUMBERS, REFUSALS};
 use std::alloc::{AllocError, Global};
 use std::process::Abort;
@@ -258,6 +258,21 @@ fn read_faults(rt: HostRuntime) -> Result<(), Fail> {
         } else {
             ended(&rt, &what, &ran, 0, ONE_CORE_REPORT.as_bytes(), "");
         }
+    }
+    Ok(())
+}
+
+/// What the faults of reading say, which no run writes.
+#[test]
+fn faults_of_reading(rt: HostRuntime) -> Result<(), Fail> {
+    let told = [
+        (InFault::Read, "read fault"),
+        (InFault::TooLong { limit: 10 }, "longer than 10 bytes"),
+        (InFault::Memory, "want of memory"),
+    ];
+    for (fault, text) in told {
+        let said = format!(in rt.alloc(); "{fault}")?;
+        assert_eq!(rt; said.as_str(), text);
     }
     Ok(())
 }
