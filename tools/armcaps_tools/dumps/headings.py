@@ -6,7 +6,7 @@ from ..command import Refused
 
 # a core's number: cpu1, CPU#1, core 1, (cpu1), core=1
 LABEL = re.compile(
-    r"(?<![a-z0-9])(?:cpu|core|processor|hart)[\s#:_=.\"'-]*(?:no\.?\s*|number\s*)?(\d+)(?![\w.]*\.\d)", re.IGNORECASE
+    r"(?<![a-z0-9])(?:cpu|core|processor|hart)[\s#:_=.\"'-]*(?:no\.?\s*|number\s*)?(\d+)(?![a-z0-9]|\.\d)", re.IGNORECASE
 )
 # gdb: its CPU counts, and where it tells none its own number of the thread
 GDB_THREAD = re.compile(
@@ -41,6 +41,12 @@ def heading(line):
     beside = line[: labels[0].start()] + " " + line[labels[0].end() :]
     words = re.findall(r"[A-Za-z0-9]+", beside)
     return int(labels[0].group(1)) if all(BESIDE.fullmatch(word) for word in words) else None
+
+
+def tells_cpu(line):
+    """Whether a heading of gdb tells the CPU beside its own number of the thread; None for another line."""
+    thread = GDB_THREAD.match(line)
+    return bool(thread.group(2)) if thread else None
 
 
 def label(before, place):

@@ -25,7 +25,7 @@ class Dump:
         self.cores, self.skipped, self.others = {}, [], []
         self.current, self.headings, self.memory = None, {}, {}
         self.pending, self.history = None, 0
-        self.columns, self.strays, self.below = {}, [], 0
+        self.columns, self.strays, self.below, self.threads = {}, [], 0, set()
         self.of_text, self.is_text = 0, False
 
     def place(self, line):
@@ -95,14 +95,18 @@ class Dump:
             return True
         number = headings.heading(line.text)
         if number is not None:
-            self.heading(number, place)
+            self.heading(number, headings.tells_cpu(line.text), place)
             return True
         if STEPS.match(line.text.strip()):
             self.of_text += 1
             return True
         return line.text.lstrip().startswith("#")
 
-    def heading(self, number, place):
+    def heading(self, number, cpu, place):
+        """Takes a heading; gdb's all tell the CPU, or none does."""
+        self.threads |= {cpu} - {None}
+        if len(self.threads) > 1:
+            raise Refused(f"{place}: one of gdb's headings tells the CPU and another does not: is the line cut?")
         self.current = number
         self.headings.setdefault(number, place)
         if number in self.memory:
