@@ -23,6 +23,7 @@ EXACT = "an override of an Exact field with the boot core's own value is 'ignori
 LEAST = "HAS_EVT asks for 2 here and for 1 in Linux"
 SVE_HWCAPS = "Linux tells the hwcaps of SVE only where there is SVE"
 VIEW = "Linux takes an override as every core's value; here it is merged with the core's own, an ignored one too"
+FOLLOWS = "follows from an early core's fate, which differs for one of the other reasons"
 SVE_SME = "SVE at 0 takes SME along here alone"
 DEPENDENTS = "Linux notes more fields, or others, where SVE or SME are at 0"
 
@@ -60,6 +61,8 @@ def cause_class(kernel, machine, cause, is_linux):
         return SSBS
     if name == "HAS_EVT":
         return LEAST
+    if name.lower().startswith("sme") and turns_sve_off(machine.cmdline):
+        return SVE_SME
     if kind == "hwcap" and name.startswith("sve") and name != "sve":
         return SVE_HWCAPS
     return VIEW if is_overridden(machine, kind, name) else None
@@ -90,8 +93,16 @@ def fates(kernel, machine, ours, theirs, ask):
         ours = ask(machine.until(panic[0]))
     if panic:
         return [one_class(kernel, machine, ours.fates[panic[0]], ("panic", panic[1]))]
-    pairs = zip(ours.fates, theirs.fates)
-    return [one_class(kernel, machine, mine, other) for mine, other in pairs if mine != other]
+    found, is_early, follows = [], True, False
+    for step in machine.steps:
+        kind, _, core = step.partition(" ")
+        is_early = is_early and kind != "finalise"
+        if kind != "online" or ours.fates[int(core)] == theirs.fates[int(core)]:
+            continue
+        name = one_class(kernel, machine, ours.fates[int(core)], theirs.fates[int(core)])
+        found.append(FOLLOWS if follows and name.startswith("unknown") else name)
+        follows = follows or is_early
+    return found
 
 
 def comes_up(machine, core):
@@ -144,8 +155,8 @@ def differences(kernel, machine, ours, theirs, ask):
     if found or not ours.system or any(fate[0] == "panic" for fate in theirs.fates):
         return found
     found += overrides(kernel, machine, ours, theirs)
-    if SVE_SME in found:
-        return found
+    if SVE_SME in found or turns_sve_off(machine.cmdline) and differ_in_sme(ours, theirs):
+        return [*found, SVE_SME]
     found += words(kernel, ours.system, theirs.system, False)
     found += words(kernel, ours.user, theirs.user, True)
     found += sets(kernel, ours, theirs)
@@ -155,6 +166,14 @@ def differences(kernel, machine, ours, theirs, ask):
 
 def turns_sve_off(cmdline):
     return any(word == "arm64.nosve" or word.startswith("id_aa64pfr0.sve=0") for word in cmdline.split())
+
+
+def differ_in_sme(ours, theirs):
+    """Whether the system's words differ in what SVE at 0 takes along here alone."""
+    smfr0 = "id_aa64smfr0_el1"
+    sme = FIELDS["id_aa64pfr1_el1", "sme"]
+    words = [(answer.system.get(smfr0), sme.value(answer.system.get(sme.register, 0))) for answer in (ours, theirs)]
+    return words[0] != words[1]
 
 
 def overrides(kernel, machine, ours, theirs):

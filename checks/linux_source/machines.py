@@ -22,7 +22,7 @@ class Machine:
     """Cores with their words and vector lengths, a command line, and steps."""
 
     def __init__(self, seed, version, bases):
-        self.draw = random.Random(seed)
+        self.seed, self.draw = seed, random.Random(seed)
         base = self.draw.choice(bases)
         other = self.draw.choice(bases) if self.draw.random() < 0.25 else base
         base, other = self.changed(base, self.draw.randrange(7)), self.changed(other, self.draw.randrange(3))

@@ -168,6 +168,16 @@ class Files(Small):
         self.assertEqual(done.stdout.decode().splitlines()[:-1], expected[:-1], done.stderr.decode())
         self.assertEqual(done.stdout.decode().splitlines()[-1], f"image {file.stat().st_size}")
 
+    def test_a_file_above_the_limit(self):
+        with open(self.folder / "kernel.img", "r+b") as file:
+            file.truncate((1 << 27) + 4)
+        files = ["--image", self.folder / "kernel.img", "--nm", self.folder / "kernel.nm", "--caps", CAPS]
+        done = run(TOP / "tools/kernel2text", *files, "-", given=TEXT.encode())
+        self.assertEqual((done.returncode, done.stdout), (1, b""))
+        self.assertIn(b"the text's format takes 134217728", done.stderr)
+        done = run(TOP / "tools/kernel2text", *files, "-", given=TEXT.replace("armcaps 1", "armcaps 2").encode())
+        self.assertEqual(done.returncode, 0)
+
     def test_no_vmlinux(self):
         done = run(TOP / "tools/kernel2text", "--vmlinux", CAPS, "--caps", CAPS, "-", given=TEXT.encode())
         self.assertEqual((done.returncode, done.stdout), (1, b""))
