@@ -20,8 +20,8 @@ pub trait Pieces {
     fn size(&self) -> usize
         ensures { result ≡ size self.now };
 
-    /// Fills the buffer with the text's bytes from a place on. Each piece begins at a multiple of 4096 and has 4096 bytes,
-    /// but the last one, which has the bytes that are left.
+    /// Fills the buffer with the text's bytes from a place on. Each piece begins at a multiple of 4096 and has 4096
+    /// bytes, but the last one, which has the bytes that are left.
     fn fill(&self, from: usize, buffer: &mut [u8])
         requires begins { from % 4096 ≡ 0 }
         requires within { from + length buffer.old ≤ size self.now }

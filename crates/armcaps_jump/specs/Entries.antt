@@ -5,7 +5,7 @@ use Rattle.armcaps_image.specs.Bytes.{as_signed_quad, quad_in, signed_in}
 use Rattle.armcaps_jump.specs.declared.jump_entry.JumpEntry.{JumpEntry}
 
 -- the entry in the first sixteen of these bytes, which stand at a place of the image. Each offset counts from its own
--- field's place. The key's offset is a multiple of four: bit 0 of its field is the branch flag, and bit 1 is passed over
+-- field's place. The key's offset is a multiple of four: bit 0 of its field is the branch flag, bit 1 is passed over
 abbrev pub entry_from : List ℕ → ℕ → JumpEntry
 entry_from bytes place = record {
   code = pos place +ℤ signed_in bytes 0;

@@ -24,4 +24,5 @@ byte_by sites place original =
 -- the image with so many entries of the table at a place applied; all reads are of the image as it was
 abbrev pub jump_image : List ℕ → ℕ → ℕ → List ℕ
 jump_image image table count =
-    map (λ place. byte_by (sites_of image table count) place (slice_index image place)) (range_with_len 0 (length image))
+    map (λ place. byte_by (sites_of image table count) place (slice_index image place))
+    (range_with_len 0 (length image))

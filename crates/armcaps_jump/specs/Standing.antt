@@ -1,5 +1,5 @@
--- What is kept of a table that was checked. Of this file nothing has to be believed: what is written of what stands for an
--- image and its table is proved to be `jump_image`.
+-- What is kept of a table that was checked. Of this file nothing has to be believed: what is written of what stands for
+-- an image and its table is proved to be `jump_image`.
 use Rattle.std.specs.Prelude.{◌≡◌, ◌+◌, ◌*◌, ◌%◌, ◌^◌, ◌≤◌, ℕ, List, None, length}
 use Rattle.std.specs.List.{All}
 use Rattle.std.specs.List.Sorted.{IsNonDecreasingBy}
@@ -24,8 +24,8 @@ pub record AreSites (size : ℕ) (sites : List Site) : Type 0 where
   pub each : All (IsSite size) sites
   pub sorted : IsNonDecreasingBy (λ site. site.place) sites
 
--- what is kept stands for an image and its table: the table lies in the image, no entry is refused, and at each place the
--- last site is the table's last
+-- what is kept stands for an image and its table: the table lies in the image, no entry is refused, and at each place
+-- the last site is the table's last
 pub record StandsFor (jumps : JumpSites) (image : List ℕ) (table count : ℕ) : Type 0 where
   pub inside : table + 16 * count ≤ length image
   pub accepted : first_refusal image table count ≡ None

@@ -15,8 +15,8 @@ use crate::site::Site;
 use std::alloc::{AllocError, Global};
 
 impl Jumps {
-    /// The jump labels of an image: the table at `table` has `count` entries, which are asked in their order, and the first
-    /// one that is refused ends it. All memory is taken here.
+    /// The jump labels of an image: the table at `table` has `count` entries, which are asked in their order, and the
+    /// first one that is refused ends it. All memory is taken here.
     pub fn check(alloc: Global, image: &[u8], table: u32, count: u32) -> Result<Jumps, JumpRefused>
         requires { length image.now ≤ 2 ^ 29 }
         ensures stands { IfOk result (λ jumps. StandsFor jumps image.now table count) }

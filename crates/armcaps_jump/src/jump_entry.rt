@@ -6,8 +6,8 @@ use armcaps_image::{quad, signed};
 
 /// An entry of a table of jump labels (Linux, include/linux/jump_label.h, `struct jump_entry` in its relative form).
 ///
-/// It has sixteen bytes, little-endian: where its code is and where its target is, each in four bytes from that field's own
-/// place, and in eight bytes where its key is, from that field's place, with two flags in the lowest bits.
+/// It has sixteen bytes, little-endian: where its code is and where its target is, each in four bytes from that field's
+/// own place, and in eight bytes where its key is, from that field's place, with two flags in the lowest bits.
 #[derive(Clone, Copy, Debug, PartialEq, Eq)]
 pub struct JumpEntry {
     /// The offset in bytes of the word that is a branch or a NOP, from the image's first byte.

@@ -30,7 +30,8 @@ impl Model for Jumps {
 }
 
 impl Jumps {
-    /// Writes the image that was checked with its jump labels applied, in pieces of at most 4096 bytes. It takes no memory.
+    /// Writes the image that was checked with its jump labels applied, in pieces of at most 4096 bytes. It takes no
+    /// memory.
     ///
     /// After `WriteFault` the sink has got a first part of it.
     pub fn write<O: Sink>(&self, image: &[u8], sink: &mut O) -> Result<(), WriteFault>

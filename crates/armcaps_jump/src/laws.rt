@@ -9,8 +9,8 @@ ghost use Rattle.armcaps_jump.specs.Jumped.{jump_image};
 ghost use Rattle.armcaps_jump.specs.Laws.{IsChosen, IsElsewhere, IsLastThere};
 ghost use Rattle.armcaps_jump.specs.Refusals.{first_refusal};
 
-/// Where no entry is refused, the image keeps its length, the word at each code place is the one that the last entry there
-/// chooses, and every other byte is the image's.
+/// Where no entry is refused, the image keeps its length, the word at each code place is the one that the last entry
+/// there chooses, and every other byte is the image's.
 pub fn the_last_entry_chooses()
     ensures length { (image : List ℕ) (table count : ℕ) → length (jump_image image table count) ≡ length image }
     ensures chosen { (image : List ℕ) (table count number : ℕ) → first_refusal image table count ≡ None

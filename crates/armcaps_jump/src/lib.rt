@@ -1,5 +1,5 @@
-//! Jump labels: the branches and NOPs of a kernel's image that its static keys choose (Linux, Documentation/staging/static-keys.rst,
-//! arch/arm64/kernel/jump_label.c).
+//! Jump labels: the branches and NOPs of a kernel's image that its static keys choose (Linux,
+//! Documentation/staging/static-keys.rst, arch/arm64/kernel/jump_label.c).
 #![tactic(auto)]
 
 mod checking;

@@ -12,8 +12,8 @@ fn put(image: &mut [u8], place: usize, word: u32) {
     }
 }
 
-// One entry at 0x200 of an image of 0x400 bytes: its four words, the key's count at 0x300, and the place and word that are
-// expected, or the kind.
+// One entry at 0x200 of an image of 0x400 bytes: its four words, the key's count at 0x300, and the place and word that
+// are expected, or the kind.
 #[test]
 fn one_entry_is_applied(rt: HostRuntime) -> Result<(), Fail> {
     let cases: [([u32; 5], Result<(usize, u32), u8>); 26] = [
@@ -105,8 +105,8 @@ fn one_entry_is_applied(rt: HostRuntime) -> Result<(), Fail> {
     Ok(())
 }
 
-// Two entries with one code place, of which the second is off; code at the end of a piece and at the next one's begin, which
-// is the image's last word; and a third entry that is refused.
+// Two entries with one code place, of which the second is off; code at the end of a piece and at the next one's begin,
+// which is the image's last word; and a third entry that is refused.
 #[test]
 fn the_last_entry_counts(rt: HostRuntime) -> Result<(), Fail> {
     let words = [

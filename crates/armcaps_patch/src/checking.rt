@@ -1,11 +1,11 @@
 //! The check of an image and its table, entry by entry.
 
-ghost use Rattle.std.specs.Prelude.{◌≡◌, ◌+◌, ◌*◌, ◌<◌, ◌≤◌, ◌^◌, ◌++◌, ◌∷◌, [], ℕ, true, None, Some, Err, IfErr, IfOk, IfSome, if◌then◌else◌, length, map};
+ghost use Rattle.std.specs.Prelude.{◌≡◌, ◌+◌, ◌*◌, ◌<◌, ◌≤◌, ◌^◌, ◌++◌, ◌∷◌, [], ℕ, true, None, Some, Err, IfErr, IfOk, IfSome, if◌then◌else◌, length, map, unwrap_or, false};
 ghost use Rattle.std.specs.List.{All};
 ghost use Rattle.std.specs.Option.{option_to_list};
 ghost use Rattle.armcaps_alt.specs.declared.patch_kind.PatchKind.{PatchKind};
-ghost use Rattle.armcaps_alt.specs.Entries.{entry_at, is_selected, selected_of};
-ghost use Rattle.armcaps_alt.specs.Refusals.{first_refusal, refusal_of};
+ghost use Rattle.armcaps_alt.specs.Entries.{entry_at, selected_of};
+ghost use Rattle.armcaps_alt.specs.Refusals.{first_refusal, refusal_by};
 ghost use Rattle.armcaps_patch.specs.Features.{features_of};
 ghost use Rattle.armcaps_patch.specs.Kept.{IsKept, StandsFor, kept_of};
 
@@ -13,8 +13,8 @@ use crate::accepting::accept;
 use crate::kept::Kept;
 use crate::planning::Plan;
 use crate::refused::PatchRefused;
-use crate::selecting::selection;
-use armcaps_alt::{Entry, Layout, Names, PatchKind};
+use crate::selecting::enabled_on;
+use armcaps_alt::{Entry, Layout, Names, PatchKind, selected};
 use armcaps_boot::Boot;
 use std::alloc::{AllocError, Global};
 
@@ -75,10 +75,11 @@ fn keep_all(
     ensures refused { (entry : ℕ) (kind : PatchKind) → result ≡ Err (PatchRefused.Entry entry kind)
         → first_refusal (features_of boot.now names.now) image.now layout ≡ Some (record { entry = entry; kind = kind }) }
 {
+    let enabled = enabled_on(boot);
     let mut kept = Vec::with_capacity(alloc, layout.count as usize)?;
     for index in 0..layout.count {
         let entry = entry_at(image, layout, index);
-        match keep(&entry, image, names, boot) {
+        match keep(selected(&entry, names, &enabled), &entry, image, names) {
             Ok(found) => add(&mut kept, found)?,
             Err(kind) => return Err(PatchRefused::Entry { entry: index, kind }),
         }
@@ -108,17 +109,21 @@ fn entry_at(image: &[u8], layout: Layout, index: u32) -> Entry
     Entry::read(&image[place..], place as u64)
 }
 
-// What is kept of an entry, nothing if it isn't selected, or the least kind that holds of it.
-fn keep(entry: &Entry, image: &[u8], names: &Names, boot: &Boot) -> Result<Option<Kept>, PatchKind>
-    requires size { length image.now ≤ 2 ^ 29 }
-    requires finalised { boot.now.final ≡ true }
-    ensures refused { IfErr result (λ kind. refusal_of (features_of boot.now names.now) image.now entry.now ≡ Some kind) }
-    ensures accepted { IfOk result (λ kept. refusal_of (features_of boot.now names.now) image.now entry.now ≡ None) }
+// What is kept of an entry by whether it is selected: nothing if it isn't, or the least kind that holds of it.
+fn keep(
+    selected: Option<bool>,
+    entry: &Entry,
+    image: &[u8],
+    names: &Names,
+) -> Result<Option<Kept>, PatchKind>
+    requires { length image.now ≤ 2 ^ 29 }
+    ensures refused { IfErr result (λ kind. refusal_by selected names.now image.now entry.now ≡ Some kind) }
+    ensures accepted { IfOk result (λ kept. refusal_by selected names.now image.now entry.now ≡ None) }
     ensures kept { IfOk result (λ kept. kept
-        ≡ (if is_selected (features_of boot.now names.now) entry.now then Some (kept_of names.now entry.now) else None)) }
+        ≡ (if unwrap_or selected false then Some (kept_of names.now entry.now) else None)) }
     ensures each { IfOk result (λ kept. IfSome kept (IsKept (length image.now))) }
 {
-    match selection(entry, names, boot) {
+    match selected {
         None => Err(PatchKind::UnknownCap),
         Some(false) => Ok(None),
         Some(true) => match accept(entry, image, names) {

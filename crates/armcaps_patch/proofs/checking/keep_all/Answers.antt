@@ -3,6 +3,7 @@ use Rattle.std.proofs.Common.{◌≡◌, ℕ, None, arith, refl, subst, inl, inr
 use Rattle.std.proofs.lemmas.Bool.{cases_lt}
 use Rattle.armcaps_alt.specs.Entries.{Features, entry_at}
 use Rattle.armcaps_alt.specs.Refusals.{refusal_of}
+use Rattle.armcaps_boot.specs.Safety.{is_enabled}
 use Rattle.armcaps_patch.specs.Features.{features_of}
 use Rattle.armcaps_patch.proofs.Keeping.{each_more, few_more, kept_more}
 use Rattle.armcaps_patch.proofs.Refusing.{first_refused, none_refused}
@@ -16,13 +17,14 @@ loop-index-preserved c =
     let found = c.in-Ok.ensures in
     let grown = c.in_ok-add-in-Ok.ensures in
     let is : c.entry_at-entry.result ≡ entry_at image c.args.layout at = c.entry_at-entry.ensures in
-    let here : refusal_of features image (entry_at image c.args.layout at) ≡ None = rw is at found.accepted in
+    let chosen = c.selected.ensures.same (is_enabled c.args.boot.now) c.enabled_on-enabled.ensures in
+    let here : refusal_of features image (entry_at image c.args.layout at) ≡ None = rw (chosen, is) at found.accepted in
     record {
       accepted = λ k within. elim (cases_lt k at) [
         | inl before ↦ c.loop-index.invariant.accepted k before
         | inr last ↦ (let same : at ≡ k = omega arith in subst (λ (j : ℕ). refusal_of features image (entry_at image c.args.layout j) ≡ None) same here)
       ];
-      kept = kept_more features image c.args.layout at _ _ c.in-Ok.found c.loop-index.invariant.kept grown (rw is at found.kept);
+      kept = kept_more features image c.args.layout at _ _ c.in-Ok.found c.loop-index.invariant.kept grown (rw (chosen, is) at found.kept);
       each = each_more _ _ _ c.in-Ok.found c.loop-index.invariant.each grown found.each;
       few = few_more _ _ c.in-Ok.found at c.loop-index.invariant.few grown;
     }
@@ -30,7 +32,8 @@ loop-index-preserved c =
 pub returns-in-Err-clause-refused : goal.returns-in-Err-clause-refused
 returns-in-Err-clause-refused c = λ entry kind same.
     let features : Features = features_of c.args.boot.now c.args.names.now in
-    let here = rw c.entry_at-entry.ensures at c.in-Err.ensures.refused in
+    let chosen = c.selected.ensures.same (is_enabled c.args.boot.now) c.enabled_on-enabled.ensures in
+    let here = rw (chosen, c.entry_at-entry.ensures) at c.in-Err.ensures.refused in
     let first = first_refused features c.args.image.now c.args.layout c.loop-index.index c.in-Err.kind c.loop-index-test.true c.loop-index.invariant.accepted here in
     let number : c.loop-index.index ≡ entry = cc in
     let why : c.in-Err.kind ≡ kind = cc in
