@@ -53,7 +53,11 @@ fn instruction_word(place: u32, instruction: Instruction) -> u32
 }
 
 // The words of instructions from a place of a replacement on.
-fn instruction_words(alloc: Global, place: u32, instructions: &[Instruction]) -> Result<Vec<u32>, AllocError>
+fn instruction_words(
+    alloc: Global,
+    place: u32,
+    instructions: &[Instruction],
+) -> Result<Vec<u32>, AllocError>
     requires aligned { place % 4 ≡ 0 }
     requires low { 1_048_576 ≤ place }
     requires high { place + 4 * length instructions.now ≤ 2 ^ 21 }
