@@ -26,7 +26,8 @@ instruction_word place Nop = no_operation
 
 -- the words of instructions from a place on
 abbrev pub instruction_words : ℕ → List Instruction → List ℕ
-instruction_words place instructions = map (λ each. instruction_word (place + 4 * each.0) each.1) (enumerate_from 0 instructions)
+instruction_words place instructions =
+    map (λ each. instruction_word (place + 4 * each.0) each.1) (enumerate_from 0 instructions)
 
 -- so many zeros
 unfoldable pub zeros : ℕ → List ℕ
