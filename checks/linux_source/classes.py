@@ -28,20 +28,43 @@ SVE_SME = "SVE at 0 takes SME along here alone"
 DEPENDENTS = "Linux notes more fields, or others, where SVE or SME are at 0"
 
 
-def same_row(kernel, field):
-    """Whether the kernel's row has the same sign, rule, visibility, strictness and safe value."""
+def row_parts(kernel, field):
+    """What the kernel's row has otherwise: the name of each part with the kernel's value; None where it has no row."""
     row = kernel.row(field)
     if row is None:
-        return False
-    rule = {"Exact": 0, "Lower": 1, "Higher": 2, "HigherOrZero": 3}[field.rule]
-    safe = field.cut(row[6])
-    return row[2:6] == (int(field.signed), rule, int(field.visible), int(field.strict)) and safe == field.safe
+        return None
+    sign, kind, visible, strict, safe = row[2:]
+    theirs = {
+        "sign": "signed" if sign else "unsigned",
+        "rule": ("Exact", "Lower", "Higher", "HigherOrZero")[kind],
+        "users": "visible" if visible else "hidden",
+        "strict": "strict" if strict else "not strict",
+        "safe": f"safe {field.cut(safe)}",
+    }
+    ours = {
+        "sign": "signed" if field.signed else "unsigned",
+        "rule": field.rule,
+        "users": "visible" if field.visible else "hidden",
+        "strict": "strict" if field.strict else "not strict",
+        "safe": f"safe {field.safe}",
+    }
+    return {name: value for name, value in theirs.items() if value != ours[name]}
 
 
 def row_class(kernel, field):
     if kernel.lacks_row(field):
         return LACKS
-    return None if same_row(kernel, field) else ROWS
+    return ROWS if row_parts(kernel, field) else None
+
+
+def row_differences(kernel):
+    """Of each field whose row the kernel has otherwise or not at all, what it has."""
+    found = {}
+    for (register, name), field in FIELDS.items():
+        parts = row_parts(kernel, field)
+        if parts or parts is None:
+            found[f"{register[:-4]}.{name}"] = "no row" if parts is None else ", ".join(parts.values())
+    return found
 
 
 def cause_class(kernel, machine, cause, is_linux):

@@ -7,6 +7,11 @@ def write(results):
     replace("linux-source", "\n".join(paragraphs(results)))
 
 
+def rows_of(results):
+    """The fields whose rows differ, in the order of the first kernel that has them."""
+    return list(dict.fromkeys(name for result in results.values() for name in result["rows"]))
+
+
 def paragraphs(results):
     """The paragraphs and the table of classes."""
     for version, result in results.items():
@@ -21,6 +26,9 @@ def paragraphs(results):
     head = ["class of difference", *(f"machines with it, of {version}" for version in results)]
     rows = [[name, *(f"{result['classes'].get(name, 0):,}" for result in results.values())] for name in names]
     yield table(head, rows)
+    yield "Fields whose row the kernels have otherwise, with what they have (FIELDS.md has ours):\n"
+    rows = [[name, *(result["rows"].get(name, "as here") for result in results.values())] for name in rows_of(results)]
+    yield table(["field", *results], rows)
     yield "The wrong kernels, each with one change in the kernel's own code, and within how many machines it was seen:\n"
     wrong = list(next(iter(results.values()))["wrong"])
     rows = [[name, *(result["wrong"][name] for result in results.values())] for name in wrong]

@@ -17,9 +17,9 @@ def table(head, rows):
 def replace(check, text):
     """Puts a check's text between its marks."""
     page = PAGE.read_text(encoding="utf-8")
-    begin, end = f"<!-- written by checks/{check} -->\n\n", "\n<!-- as far as here -->"
+    begin, end = f"<!-- written by checks/{check} -->\n", "<!-- as far as here -->"
     parts = re.compile(re.escape(begin) + ".*?" + re.escape(end), re.DOTALL)
-    PAGE.write_text(parts.sub(lambda _: begin + text + end, page), encoding="utf-8")
+    PAGE.write_text(parts.sub(lambda _: f"{begin}\n{text}\n{end}", page), encoding="utf-8")
 
 
 def write_real_kernel(results, controls, releases):
