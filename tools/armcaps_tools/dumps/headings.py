@@ -43,6 +43,11 @@ def heading(line):
     return int(labels[0].group(1)) if all(BESIDE.fullmatch(word) for word in words) else None
 
 
+def is_cut(line):
+    """Whether a heading of gdb's lacks its end."""
+    return bool(GDB_THREAD.match(line)) and any(line.count(one) != line.count(other) for one, other in ("()", "[]"))
+
+
 def tells_cpu(line):
     """Whether a heading of gdb tells the CPU beside its own number of the thread; None for another line."""
     thread = GDB_THREAD.match(line)

@@ -95,6 +95,8 @@ class Dump:
             return True
         number = headings.heading(line.text)
         if number is not None:
+            if headings.is_cut(line.text):
+                raise Refused(f"{place}: the heading lacks its end: are the lines cut at a column?")
             self.heading(number, headings.tells_cpu(line.text), place)
             return True
         if STEPS.match(line.text.strip()):
