@@ -56,6 +56,18 @@ def told(field):
         yield f"  {value}: {words}" if value != "*" else "  the value n: " + formula(words)
     if "*" not in values_of(name_of(field)):
         yield f"  other values: see the Arm manual, {field.register.upper()}"
+    asking = list(asked_by(field))
+    if asking:
+        yield f"  asked for by {', '.join(asking)}"
+
+
+def asked_by(field):
+    """The capabilities and hwcaps that ask for a field, each with the least value."""
+    for table, what in (("capabilities", ""), ("hwcaps", "hwcap ")):
+        for name, (_, tests) in profile.tests(table).items():
+            for test in tests:
+                if (test.register, test.field) == (field.register, field.name):
+                    yield f"{what}{name} ({test.least})"
 
 
 def formula(words):

@@ -165,7 +165,7 @@ class Options(unittest.TestCase):
             for value in fields.values_of(fields.name_of(field)):
                 if value != "*":
                     self.assertEqual(field.cut(int(value)), int(value))
-        self.assertEqual(len(self.lines("--what", "id_aa64pfr0.sve")), 5)
+        self.assertEqual(self.lines("--what", "id_aa64pfr0.sve")[-1], "  asked for by SVE (1), hwcap sve (1)")
         self.assertIn(b"did you mean sve?", tool("explain", "--what", "svee").stderr)
 
     def test_strides(self):
