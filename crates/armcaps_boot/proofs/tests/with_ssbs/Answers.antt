@@ -8,4 +8,4 @@ unfolding id_aa64pfr1_rows
 set-requires c = lit< tt
 
 pub returns : goal.returns
-returns c index = c.set.ensures.others CtrEl0 index (inl (λ same. cc)) ∙ c.without_overrides-overrides.ensures index
+returns c index within = c.set.ensures.others CtrEl0 index (inl (λ same. cc)) ∙ c.without_overrides-overrides.ensures index within

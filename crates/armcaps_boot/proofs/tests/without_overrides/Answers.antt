@@ -5,4 +5,4 @@ use Rattle.armcaps_tables.proofs.Overriding.{none_at}
 use Rattle.armcaps_boot.proofs.tests.without_overrides.Goals as goal
 
 pub returns : goal.returns
-returns c index = ap (λ (o : FieldOverrides). override_of o CtrEl0 index) c.none.ensures ∙ none_at CtrEl0 index
+returns c index within = ap (λ (o : FieldOverrides). override_of o CtrEl0 index) c.none.ensures ∙ none_at CtrEl0 index
