@@ -29,7 +29,7 @@ def paragraphs(results):
     yield "Fields whose row the kernels have otherwise, with what they have (FIELDS.md has ours):\n"
     rows = [[name, *(result["rows"].get(name, "as here") for result in results.values())] for name in rows_of(results)]
     yield table(["field", *results], rows)
-    yield "The wrong kernels, each with one change in the kernel's own code, and within how many machines it was seen:\n"
+    yield "The wrong kernels, one change in the kernel's own code each, and within how many machines each was seen:\n"
     wrong = list(next(iter(results.values()))["wrong"])
     rows = [[name, *(result["wrong"][name] for result in results.values())] for name in wrong]
     yield table(["wrong kernel", *results], rows)

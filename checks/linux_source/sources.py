@@ -2,6 +2,7 @@
 
 import pathlib
 import re
+import shutil
 import subprocess
 
 WANTED = ["arch/arm64", "lib/kstrtox.c", "kernel/params.c"]
@@ -17,12 +18,13 @@ def source(out, version):
     tree, release = folder / f"linux-source-{version}", folder / "release"
     if not release.exists():
         folder.mkdir(parents=True, exist_ok=True)
-        run("apt-get", "-qq", "download", f"linux-source-{version}", cwd=folder)
+        run("apt-get", "-qq", "-o", "APT::Sandbox::User=root", "download", f"linux-source-{version}", cwd=folder)
         (package,) = folder.glob("linux-source-*.deb")
         run("dpkg-deb", "-x", package, folder)
         names = [f"linux-source-{version}/{name}" for name in WANTED]
         run("tar", "-x", "-f", folder / f"usr/src/linux-source-{version}.tar.xz", "-C", folder, *names)
         told = re.search(r"_([^_]+)_", package.name).group(1)
         package.unlink()
+        shutil.rmtree(folder / "usr")
         release.write_text(f"linux-source-{version} {told}\n")
     return tree, release.read_text().strip()

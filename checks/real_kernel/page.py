@@ -37,7 +37,7 @@ def real_kernel(results, controls, releases):
     yield f"{' and '.join(releases)} on {boards_count} boards each, four cores a board.\n"
     yield (
         f"- **{total('sites')} words of sites compared**, of which the kernels had changed {total('sites changed')}.\n"
-        f"  {sum(kept.values()):,} differ at the sites of callbacks, which are listed below, and {count('strange')} others.\n"
+        f"  {sum(kept.values()):,} differ at the sites of callbacks, as listed below, and {count('strange')} others.\n"
         f"- {total('reads compared')} reads of the ID space compared.\n"
         f"- **{len(results)} images for a boot**, with {total('boot words')} words changed, were booted: "
         f"{count('new warnings')} warnings\n"

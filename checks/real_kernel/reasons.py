@@ -32,7 +32,7 @@ NUMBERS = {
 
 
 CALLBACKS = {
-    "kvm_compute_final_ctr_el0": "its kind is final_ctr; Linux's CTR_EL0 has IDC by CLIDR_EL1, as of HAS_CACHE_IDC above",
+    "kvm_compute_final_ctr_el0": "its kind is final_ctr; Linux's CTR_EL0 has IDC by CLIDR_EL1, as HAS_CACHE_IDC",
 }
 
 
