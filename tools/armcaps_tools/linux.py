@@ -18,6 +18,7 @@ STAGES = {
     "ALWAYS_SYSTEM": "it tells that all capabilities are settled: secondary cores would be verified and not detected",
     "HAS_VIRT_HOST_EXTN": "until the kernel has patched this itself, cpu_copy_el2regs writes TPIDR_EL1 to TPIDR_EL2",
     "HAS_VA52": "the first page tables have 48 bits, and __cpu_setup would set TCR_EL1 for 52",
+    "HAS_LPA2": "it goes with HAS_VA52",
     "HAS_IRQ_PRIO_MASKING": "the interrupt controller is not set up yet",
     "HAS_GIC_PRIO_MASKING": "the interrupt controller is not set up yet",
     "HAS_GIC_PRIO_RELAXED_SYNC": "the interrupt controller is not set up yet",
