@@ -2,12 +2,13 @@
 exchanged, columns lost. Each takes a text and a random source, and answers another text, or None.
 
 Left out is what no reader can tell, since a right dump would look the same: two lines exchanged that say one register
-of two cores, or head two cores; two plain numbers exchanged within a line; digits lost of a number that is not padded
+of two cores, or head two cores; two numbers, names or cores exchanged within a line; digits lost of a number that is not padded
 and stands alone.
 """
 
 import re
 
+from armcaps_tools.dumps.headings import LABEL
 from armcaps_tools.dumps.registers import registers_in
 
 NUMBER = re.compile(r"[\"'|(]?(?:0x)?[0-9a-f_]+[\"',;|)\]}]*", re.IGNORECASE)
@@ -62,7 +63,7 @@ def words_exchanged(lines, random):
     if len(parts) < 3:
         return None
     one, other = random.sample(range(0, len(parts), 2), 2)
-    for of_a_kind in (NUMBER.fullmatch, registers_of):
+    for of_a_kind in (NUMBER.fullmatch, registers_of, LABEL.fullmatch):
         if of_a_kind(parts[one]) and of_a_kind(parts[other]):
             return None
     parts[one], parts[other] = parts[other], parts[one]
