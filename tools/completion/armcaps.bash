@@ -7,7 +7,9 @@ _armcaps() {
     armcaps-cmdline-lint) options='--linux --file --text --help --version' ;;
     armcaps-kernel2text) options='--image --nm --caps --vmlinux --running --on --off --conduit --callback --padded --rules --help --version' ;;
     armcaps-patch-diff) options='--nm --all --site --help --version' ;;
-    *) [ "$COMP_CWORD" = 1 ] && COMPREPLY=($(compgen -W 'report patch mrs demo trace' -- "$word")); return ;;
+    *)
+        [ "$COMP_CWORD" = 1 ] && COMPREPLY=($(compgen -W 'report patch mrs demo trace' -- "$word"))
+        return ;;
     esac
     case $before in
     --format) COMPREPLY=($(compgen -W '1 2' -- "$word")); return ;;

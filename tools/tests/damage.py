@@ -2,8 +2,8 @@
 exchanged, columns lost. Each takes a text and a random source, and answers another text, or None.
 
 Left out is what no reader can tell, since a right dump would look the same: two lines exchanged that say one register
-of two cores, or head two cores; two numbers, names or cores exchanged within a line; digits lost of a number that is not padded
-and stands alone.
+of two cores, or head two cores; two numbers, names or cores exchanged within a line; digits lost of a number that is
+not padded and stands alone.
 """
 
 import re

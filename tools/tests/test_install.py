@@ -29,7 +29,8 @@ class Installed(unittest.TestCase):
 
     def completed(self, *words):
         """What bash completes."""
-        script = f'. "$0"; COMP_WORDS=({" ".join(words)}) COMP_CWORD={len(words) - 1}; _armcaps; echo "${{COMPREPLY[@]}}"'
+        line = f"COMP_WORDS=({' '.join(words)}) COMP_CWORD={len(words) - 1}"
+        script = f'. "$0"; {line}; _armcaps; echo "${{COMPREPLY[@]}}"'
         page = self.folder / "usr/share/bash-completion/completions" / words[0]
         return self.ran("bash", "-c", script, page).stdout.decode().split()
 

@@ -6,7 +6,8 @@ from ..command import Refused
 
 # a core's number: cpu1, CPU#1, core 1, (cpu1), core=1
 LABEL = re.compile(
-    r"(?<![a-z0-9])(?:cpu|core|processor|hart)[\s#:_=.\"'-]*(?:no\.?\s*|number\s*)?(\d+)(?![a-z0-9]|\.\d)", re.IGNORECASE
+    r"(?<![a-z0-9])(?:cpu|core|processor|hart)[\s#:_=.\"'-]*(?:no\.?\s*|number\s*)?(\d+)(?![a-z0-9]|\.\d)",
+    re.IGNORECASE,
 )
 # gdb: its CPU counts, and where it tells none its own number of the thread
 GDB_THREAD = re.compile(
