@@ -1,0 +1,26 @@
+use Rattle.std.proofs.Common.{◌+◌, ◌-◌, ◌<◌, arith, get_or, sym}
+use Rattle.armcaps_elf.specs.declared.section.Section.{Section}
+use Rattle.armcaps_elf.proofs.Sharing.{all_follow, near_overlap, none_overlap}
+use Rattle.armcaps_elf.proofs.overlaps.share_places.Goals as goal
+
+abbrev nothing : Section
+nothing = record { address = 0; place = 0; size = 0 }
+
+pub returns-then-sections-index-clause-shared : goal.returns-then-sections-index-clause-shared
+returns-then-sections-index-clause-shared c =
+    let xs = c.args.sections.now in
+    let index = c.loop-index.index in
+    let order = c.requires.rise (index - 1) index nothing (omega arith) (omega arith) in
+    let inside : (get_or xs index nothing).place < (get_or xs (index - 1) nothing).place + (get_or xs (index - 1) nothing).size =
+    omega arith in
+    sym (near_overlap (λ section. section.place) xs index nothing (omega arith) (omega arith) c.requires.rise c.requires.some inside)
+
+pub returns-clause-shared : goal.returns-clause-shared
+returns-clause-shared c =
+    let follow = all_follow (λ section. section.place) c.args.sections.now c.requires.rise (λ k d within.
+    c.loop-index.invariant k d (omega arith)) in
+    sym (none_overlap (λ section. section.place) c.args.sections.now follow)
+
+pub returns-clause-follow : goal.returns-clause-follow
+returns-clause-follow c = λ none. all_follow (λ section. section.place) c.args.sections.now c.requires.rise (λ k d within.
+    c.loop-index.invariant k d (omega arith))

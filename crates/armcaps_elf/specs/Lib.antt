@@ -1,0 +1,6 @@
+-- What the contracts of this crate cite.
+pub mod Headers
+pub mod Sections
+pub mod Refusals
+pub mod Images
+pub mod Standing

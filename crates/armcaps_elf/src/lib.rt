@@ -1,0 +1,22 @@
+//! ELF files of kernels: which of a file's sections are loaded, the flat image that they make in memory, and the file with
+//! another flat image put back into it (System V ABI, "Object Files"; Linux, arch/arm64/kernel/vmlinux.lds.S).
+#![tactic(auto)]
+
+mod bounds;
+mod checks;
+mod elf;
+mod fields;
+mod flattening;
+mod header;
+mod headers;
+mod naming;
+mod ordering;
+mod overlaps;
+mod reading;
+mod refused;
+mod section;
+mod writing;
+
+pub use elf::Elf;
+pub use refused::ElfRefused;
+pub use section::Section;
