@@ -1,6 +1,6 @@
 -- The loaded sections of a file.
-use Rattle.std.proofs.Common.{◌≡◌, ◌==◌, ◌+◌, ◌<◌, ◌≤◌, ◌/◌, ◌%◌, ◌&&◌, ◌||◌, ℕ, Bool, List, Option, None, Some, [], ◌∷◌, arith, ap, cond, count_by, false, filter, find, get_or, length, map, nat_le, nat_lt, not, refl, suc, subst, sym, true, zero, ◌∙◌}
-use Rattle.std.specs.List.{All, AllPairs, list_any}
+use Rattle.std.proofs.Common.{◌≡◌, ◌+◌, ◌<◌, ◌≤◌, ◌||◌, ℕ, Bool, List, Option, Some, [], ◌∷◌, arith, ap, cond, count_by, false, filter, find, length, map, nat_le, nat_lt, refl, suc, subst, sym, true, zero, ◌∙◌}
+use Rattle.std.specs.List.{All, list_any}
 use Rattle.std.specs.List.Sorted.{IsPermutation}
 use Rattle.std.specs.Option.{option_map}
 use Rattle.std.proofs.lemmas.Bool.Decides.{nat_tests}

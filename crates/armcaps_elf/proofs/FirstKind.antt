@@ -1,5 +1,5 @@
 -- The first kind that holds.
-use Rattle.std.proofs.Common.{◌≡◌, ℕ, Bool, List, None, Option, Some, [], ◌∷◌, ap, cond, false, find, is_none, nat_le, refl, sym, true, ◌∙◌}
+use Rattle.std.proofs.Common.{◌≡◌, ℕ, Bool, List, None, Option, Some, [], ◌∷◌, false, find, is_none, nat_le, refl, true, ◌∙◌}
 use Rattle.std.specs.Option.{option_map}
 use Rattle.armcaps_elf.specs.Headers.{sections_of, table_of}
 use Rattle.armcaps_elf.specs.Refusals.{HasHeaders, HasTable, Test, has_bad_table, has_long_span, has_open_name, has_other_header, has_overlap, has_section_outside, kind_of, lacks_headers, table_count}

@@ -1,7 +1,6 @@
 -- The flat image, section by section.
-use Rattle.std.proofs.Common.{◌≡◌, ◌⊎◌, ◌+◌, ◌-◌, ◌<◌, ◌≤◌, ◌&&◌, ◌++◌, ℕ, Bool, List, None, Option, Some, ap, arith, cond, drop, false, find, get_or, inl, inr, length, length-take, map, nat_le, nat_lt, refl, subst, sym, take, true, ◌∙◌, if◌then◌else◌}
+use Rattle.std.proofs.Common.{◌≡◌, ◌⊎◌, ◌+◌, ◌-◌, ◌<◌, ◌≤◌, ◌&&◌, ◌++◌, ℕ, Bool, List, Option, ap, arith, cond, drop, false, get_or, inl, inr, length, length-take, map, nat_le, nat_lt, refl, subst, sym, take, true, ◌∙◌, if◌then◌else◌}
 use Rattle.std.specs.List.{All, AllPairs, list_any, range_with_len}
-use Rattle.std.specs.List.Sorted.{IsPermutation}
 use Rattle.std.specs.Option.{option_map_or}
 use Rattle.std.proofs.lemmas.Bool.{cases_lt}
 use Rattle.std.proofs.lemmas.Bool.Decides.{nat_tests}
@@ -13,7 +12,7 @@ use Rattle.armcaps_io.proofs.Sent.{piece_bytes}
 use Rattle.armcaps_elf.specs.declared.section.Section.{Section}
 use Rattle.armcaps_elf.specs.Headers.{sections_of}
 use Rattle.armcaps_elf.specs.Images.{byte_at, flat_image}
-use Rattle.armcaps_elf.specs.Sections.{Follows, base_of, holds, span_of}
+use Rattle.armcaps_elf.specs.Sections.{Follows, base_of, holds}
 use Rattle.armcaps_elf.specs.Standing.{Loaded, StandsFor}
 use Rattle.armcaps_elf.proofs.Holding.{find_held, find_none, find_same, none_hold, one_holds}
 
@@ -48,8 +47,8 @@ first_more sections base file old new n x follow within is put before = record {
         put j ∙ (ap (λ b. cond b (byte_of_file file x (base + j)) (get_or old j 0)) yes ∙ ap (λ s. byte_of_file file s (base + j)) (sym here))
   ];
   zeros = λ j none.
-    let other : holds begin (base + j) x ≡ false = ap (holds begin (base + j)) (sym (is x)) ∙ none n x (omega arith) in
-    put j ∙ (ap (λ b. cond b (byte_of_file file x (base + j)) (get_or old j 0)) other ∙ before.zeros j (λ k d low. none k d (omega arith)));
+      let other : holds begin (base + j) x ≡ false = ap (holds begin (base + j)) (sym (is x)) ∙ none n x (omega arith) in
+      put j ∙ (ap (λ b. cond b (byte_of_file file x (base + j)) (get_or old j 0)) other ∙ before.zeros j (λ k d low. none k d (omega arith)));
 }
 
 -- with all sections the byte is that of the definition
@@ -77,8 +76,8 @@ pub flat_is : (loaded : Loaded) (file flat : List ℕ) → StandsFor loaded file
 flat_is loaded file flat stands size each =
     let ss = sections_of file in
     let whole = piece_bytes (byte_at ss file) loaded.base loaded.span flat size (λ j within.
-      each j ∙ ap (λ (found : Option Section). option_map_or (λ s. byte_of_file file s (loaded.base + j)) found 0)
-        (find_same begin (loaded.base + j) ss loaded.sections stands.sections stands.rise)) in
+    each j ∙ ap (λ (found : Option Section). option_map_or (λ s. byte_of_file file s (loaded.base + j)) found 0)
+    (find_same begin (loaded.base + j) ss loaded.sections stands.sections stands.rise)) in
     whole ∙ (ap (λ b. map (byte_at ss file) (range_with_len b loaded.span)) stands.base
     ∙ ap (λ n. map (byte_at ss file) (range_with_len (base_of ss) n)) stands.span)
 

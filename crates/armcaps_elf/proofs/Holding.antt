@@ -1,5 +1,5 @@
 -- The one section that holds a number.
-use Rattle.std.proofs.Common.{◌≡◌, ◌+◌, ◌-◌, ◌<◌, ◌≤◌, ◌&&◌, ℕ, Bool, List, None, Option, Some, [], ◌∷◌, ap, arith, cond, false, find, get_or, inl, inr, length, nat_le, nat_lt, refl, suc, subst, sym, true, zero, ◌∙◌}
+use Rattle.std.proofs.Common.{◌≡◌, ◌+◌, ◌<◌, ◌≤◌, ℕ, Bool, List, None, Option, Some, [], ◌∷◌, ap, arith, cond, false, find, get_or, inl, inr, length, refl, suc, sym, true, zero, ◌∙◌}
 use Rattle.std.specs.List.{All, AllPairs, list_any}
 use Rattle.std.specs.List.Sorted.{IsPermutation}
 use Rattle.std.proofs.lemmas.Bool.{cases_lt}
@@ -49,11 +49,11 @@ module _ (begin : Section → ℕ) (number : ℕ) where
         let there : holds begin number (get_or ys k e) ≡ true = ap (holds begin number) (get_or_default ys k e d within) ∙ is in
         absurd (not_both (get_or ys i e) (get_or ys k e) (follow i k e before within) pass there)
     | inr after ↦ elim (cases_lt k i) [
-        | inl behind ↦
-            let there : holds begin number (get_or ys k e) ≡ true = ap (holds begin number) (get_or_default ys k e d within) ∙ is in
-            absurd (not_both (get_or ys k e) (get_or ys i e) (follow k i e behind short) there pass)
-        | inr here ↦ let same : i ≡ k = omega arith in ap (λ n. get_or ys n e) same ∙ get_or_default ys k e d within
-      ]
+      | inl behind ↦
+          let there : holds begin number (get_or ys k e) ≡ true = ap (holds begin number) (get_or_default ys k e d within) ∙ is in
+          absurd (not_both (get_or ys k e) (get_or ys i e) (follow k i e behind short) there pass)
+      | inr here ↦ let same : i ≡ k = omega arith in ap (λ n. get_or ys n e) same ∙ get_or_default ys k e d within
+    ]
   ]
 
   pub find_held : (xs ys : List Section) (k : ℕ) (d : Section) → IsPermutation xs ys → AllPairs (Follows begin) ys → k < length ys

@@ -1,12 +1,11 @@
 -- Sections that share, and sections that follow one another.
-use Rattle.std.proofs.Common.{◌≡◌, ◌+◌, ◌-◌, ◌<◌, ◌≤◌, ◌&&◌, ℕ, Bool, List, [], ◌∷◌, arith, cond, count_by, false, get_or, inl, inr, length, nat_le, nat_lt, suc, true, zero, refl, ◌∙◌, ap, sym}
+use Rattle.std.proofs.Common.{◌≡◌, ◌+◌, ◌-◌, ◌<◌, ◌≤◌, ℕ, Bool, List, [], ◌∷◌, arith, cond, count_by, false, get_or, inl, inr, length, nat_le, suc, true, zero, refl, ◌∙◌, sym}
 use Rattle.std.specs.List.{All, AllPairs}
-use Rattle.std.specs.List.Sorted.{IsNonDecreasingBy, IsPermutation}
+use Rattle.std.specs.List.Sorted.{IsNonDecreasingBy}
 use Rattle.std.proofs.lemmas.Bool.{cases_lt}
 use Rattle.std.proofs.lemmas.Bool.Decides.{nat_tests}
 use Rattle.std.proofs.lemmas.List.{get_or_default}
 use Rattle.std.proofs.lemmas.List.Folds.{list_any_at, list_any_none}
-use Rattle.std.proofs.lemmas.List.Sorted.{list_any-IsPermutation, sum_by-IsPermutation}
 use Rattle.std.proofs.lemmas.List.Sums.{sum_by-cons}
 use Rattle.armcaps_elf.specs.declared.section.Section.{Section}
 use Rattle.armcaps_elf.specs.Sections.{Follows, overlap, shares}
@@ -111,9 +110,9 @@ module _ (begin : Section → ℕ) where
       elim (cases_lt i k) [
         | inl before ↦ true-false (sym share ∙ apart-before (get_or xs k d) (get_or xs i d) (follow i k d before within))
         | inr after ↦ elim (cases_lt k i) [
-            | inl behind ↦ true-false (sym share ∙ apart (get_or xs k d) (get_or xs i d) (follow k i d behind short))
-            | inr here ↦ omega arith
-          ]
+          | inl behind ↦ true-false (sym share ∙ apart (get_or xs k d) (get_or xs i d) (follow k i d behind short))
+          | inr here ↦ omega arith
+        ]
       ]
 
   -- of sections that follow one another none shares with two

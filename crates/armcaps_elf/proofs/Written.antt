@@ -1,19 +1,20 @@
 -- The file with a flat image in it, piece after piece.
-use Rattle.std.proofs.Common.{◌≡◌, ◌⊎◌, ◌+◌, ◌-◌, ◌<◌, ◌≤◌, ◌&&◌, ◌++◌, ℕ, List, Option, None, Some, ap, append_assoc, arith, drop, false, find, get_or, inl, inr, length, length-drop, length-take, map, nat_le, nat_lt, refl, subst, sym, take, true, ◌∙◌}
-use Rattle.std.specs.List.{All, AllPairs, range_with_len}
+use Rattle.std.proofs.Common.{◌≡◌, ◌⊎◌, ◌+◌, ◌-◌, ◌<◌, ◌≤◌, ◌&&◌, ◌++◌, ℕ, Err, List, Ok, OnErr, OnOk, Option, Result, Some, [], ◌∷◌, ap, append_assoc, arith, drop, false, get_or, inl, inr, length, length-drop, length-take, map, nat_le, nat_lt, refl, subst, sym, take, true, ◌∙◌}
+use Rattle.std.specs.List.{All, AllPairs}
 use Rattle.std.specs.List.Sorted.{IsPermutation}
 use Rattle.std.specs.Option.{option_map_or}
 use Rattle.std.proofs.lemmas.Bool.{cases_lt}
 use Rattle.std.proofs.lemmas.Bool.Decides.{nat_tests}
 use Rattle.std.proofs.lemmas.List.{get_or-drop, get_or-take}
 use Rattle.std.proofs.lemmas.List.Sorted.{IsPermutation-refl}
-use Rattle.armcaps_io.proofs.Sent.{piece_bytes, pieces_join}
+use Rattle.armcaps_io.proofs.StreamLemmas.{Appends-trans}
+use Rattle.armcaps_io.proofs.Sent.{piece_bytes, pieces_join, prefix_behind, sent_more}
 use Rattle.armcaps_io.specs.Pieces.{bytes_from}
 use Rattle.armcaps_io.specs.Streams.{Appends, AppendsPrefix}
 use Rattle.armcaps_elf.specs.declared.section.Section.{Section}
 use Rattle.armcaps_elf.specs.Images.{put_byte}
 use Rattle.armcaps_elf.specs.Sections.{Follows, holds}
-use Rattle.armcaps_elf.proofs.Holding.{find_held, find_none}
+use Rattle.armcaps_elf.proofs.Holding.{find_held, find_none, find_same}
 
 -- a first part of two pieces is one of the first piece, or the first piece and a first part of the second
 pub prefix_of_first : (a b : Option (List ℕ)) (xs ys : List ℕ) → AppendsPrefix a b xs → AppendsPrefix a b (xs ++ ys)
@@ -23,6 +24,35 @@ prefix_of_first a b xs ys sent = record {
   whole = sym (append_assoc sent.part sent.rest ys) ∙ ap (λ zs. zs ++ ys) sent.whole;
   appended = sent.appended;
 }
+
+pub prefix_of_second : (a b c : Option (List ℕ)) (xs ys : List ℕ) → Appends a b xs → AppendsPrefix b c ys → AppendsPrefix a c (xs ++ ys)
+prefix_of_second a b c xs ys first sent = record {
+  part = xs ++ sent.part;
+  rest = sent.rest;
+  whole = append_assoc xs sent.part sent.rest ∙ ap (λ zs. xs ++ zs) sent.whole;
+  appended = Appends-trans a b c xs sent.part first sent.appended;
+}
+
+-- what follows where a call answered so
+pub on_err : {T E P Q : Type 0} (r : Result T E) → (P → Q) → OnErr r P → OnErr r Q
+on_err (Ok x) follows holds = holds
+on_err (Err e) follows holds = follows holds
+
+pub on_ok : {T E P Q : Type 0} (r : Result T E) → (P → Q) → OnOk r P → OnOk r Q
+on_ok (Ok x) follows holds = follows holds
+on_ok (Err e) follows holds = holds
+
+-- a piece behind what was sent before it, which is all below its begin
+pub sent_piece : (a b c : Option (List ℕ)) (f : ℕ → ℕ) (done n end : ℕ) (xs : List ℕ) → xs ≡ bytes_from f done n → done + n ≡ end
+    → Appends a b (bytes_from f 0 done) → Appends b c xs → Appends a c (bytes_from f 0 end)
+sent_piece a b c f done n end xs piece is before more =
+    subst (λ m. Appends a c (bytes_from f 0 m)) is
+    (sent_more a b c f 0 done done n (omega arith) before (subst (Appends b c) piece more))
+
+pub prefix_piece : (a b c : Option (List ℕ)) (f : ℕ → ℕ) (done n all : ℕ) (xs : List ℕ) → xs ≡ bytes_from f done n → done + n ≤ all
+    → Appends a b (bytes_from f 0 done) → AppendsPrefix b c xs → AppendsPrefix a c (bytes_from f 0 all)
+prefix_piece a b c f done n all xs piece within before more =
+    prefix_behind a b c f 0 done done n all (omega arith) within before (subst (AppendsPrefix b c) piece more)
 
 abbrev place_of : Section → ℕ
 place_of section = section.place
@@ -78,7 +108,7 @@ module _ (ys : List Section) (base : ℕ) (file flat : List ℕ) where
           subst (λ (s : Section). s.place + s.size ≤ x.place + x.size) (sym here) (omega arith)
     ];
     behind = λ i d high short.
-      subst (λ (s : Section). s.place + s.size ≤ (get_or ys i d).place) (is d) (follow index i d (omega arith) short);
+        subst (λ (s : Section). s.place + s.size ≤ (get_or ys i d).place) (is d) (follow index i d (omega arith) short);
   }
 
   not_held : (s : Section) (number : ℕ) → (number < s.place) ⊎ (s.place + s.size ≤ number) → holds place_of number s ≡ false
@@ -92,11 +122,11 @@ module _ (ys : List Section) (base : ℕ) (file flat : List ℕ) where
   none_between done index place so low high follow = λ i d short. elim (cases_lt i index) [
     | inl earlier ↦ not_held (get_or ys i d) place (inr (omega (arith, so.before i d earlier short)))
     | inr later ↦ elim (cases_lt index i) [
-        | inl more ↦ not_held (get_or ys i d) place (inl (omega (arith, high d (omega arith), follow index i d more short)))
-        | inr here ↦
-            let same : index ≡ i = omega arith in
-            not_held (get_or ys i d) place (inl (subst (λ k. place < (get_or ys k d).place) same (high d (omega arith))))
-      ]
+      | inl more ↦ not_held (get_or ys i d) place (inl (omega (arith, high d (omega arith), follow index i d more short)))
+      | inr here ↦
+          let same : index ≡ i = omega arith in
+          not_held (get_or ys i d) place (inl (subst (λ k. place < (get_or ys k d).place) same (high d (omega arith))))
+    ]
   ]
 
   -- the bytes to a section's begin, and the section's own
@@ -107,10 +137,29 @@ module _ (ys : List Section) (base : ℕ) (file flat : List ℕ) where
   piece_is done index x follow within is so inside above below =
       let start : done ≤ x.place = subst (λ (s : Section). done ≤ s.place) (is x) (so.behind index x (omega arith) within) in
       let gap = gap_is done (x.place - done) (omega arith) (λ j low. none_between done index (done + j) so (omega arith)
-        (λ d short. subst (λ (s : Section). done + j < s.place) (sym (is d)) (omega arith)) follow) in
+      (λ d short. subst (λ (s : Section). done + j < s.place) (sym (is d)) (omega arith)) follow) in
       let body = body_is index x follow within (is x) above below in
       let at : done + (x.place - done) ≡ x.place = omega arith in
       let size : x.place - done + x.size ≡ x.place + x.size - done = omega arith in
       ap (λ zs. zs ++ take x.size (drop (x.address - base) flat)) gap
       ∙ (ap (λ zs. bytes_from byte done (x.place - done) ++ zs) (body ∙ ap (λ p. bytes_from byte p x.size) (sym at))
       ∙ (pieces_join byte done (x.place - done) x.size ∙ ap (bytes_from byte done) size))
+
+  -- the rest of the file, where the last section ends before it
+  pub rest_is : (done index : ℕ) → length ys ≤ index → done ≤ length file → IsBetween done index → AllPairs (Follows place_of) ys
+      → take (length file - done) (drop done file) ≡ bytes_from byte done (length file - done)
+  rest_is done index all within so follow =
+      gap_is done (length file - done) (omega arith) (λ j low. none_between done index (done + j) so (omega arith)
+      (λ d short. absurd (omega arith)) follow)
+
+map_same : {X Y : Type 0} (f g : X → Y) (xs : List X) → ((x : X) → f x ≡ g x) → map f xs ≡ map g xs
+map_same f g [] same = refl
+map_same f g (x ∷ xs) same = rw (same x, map_same f g xs same) refl
+
+-- the order of the sections doesn't matter
+pub put_same : (xs ys : List Section) (base : ℕ) (file flat places : List ℕ) → IsPermutation xs ys → AllPairs (Follows place_of) ys
+    → map (put_byte ys base file flat) places ≡ map (put_byte xs base file flat) places
+put_same xs ys base file flat places moved follow =
+    map_same (put_byte ys base file flat) (put_byte xs base file flat) places (λ place.
+    ap (λ (found : Option Section). option_map_or (λ s. get_or flat (s.address + (place - s.place) - base) 0) found (get_or file place 0))
+    (find_same place_of place xs ys moved follow))

@@ -43,8 +43,8 @@ header_numbered file index = header_at file (headers_place file + 64 * index)
 abbrev pub headers_of : List ℕ → List Header
 headers_of file = map (header_numbered file) (range_with_len 0 (header_count file))
 
--- whether a section is loaded and has bytes in the file: it has the flag SHF_ALLOC (2), its type is neither SHT_NULL (0) nor
--- SHT_NOBITS (8), and it isn't empty
+-- whether a section is loaded and has bytes in the file: it has the flag SHF_ALLOC (2), its type is neither SHT_NULL
+-- (0) nor SHT_NOBITS (8), and it isn't empty
 abbrev pub is_loaded : Header → Bool
 is_loaded header =
     header.flags / 2 % 2 == 1 && (not (header.form == 0) && (not (header.form == 8) && not (header.section.size == 0)))

@@ -15,10 +15,16 @@ byte_at sections file address =
 
 -- the flat image: the bytes from the base to the greatest end
 abbrev pub flat_image : List ℕ → List ℕ
-flat_image file = map (byte_at (sections_of file) file) (range_with_len (base_of (sections_of file)) (span_of (sections_of file)))
+flat_image file =
+    let sections = sections_of file in
+    map (byte_at sections file) (range_with_len (base_of sections) (span_of sections))
 
--- a byte of the file with a flat image in it, which begins at the base: of a loaded section it is the flat image's byte at its
--- address, and else the file's own
+-- where the byte at a place of the file, which a section holds, stands in the flat image
+abbrev pub flat_place : List Section → Section → ℕ → ℕ
+flat_place sections section place = section.address + (place - section.place) - base_of sections
+
+-- a byte of the file with a flat image in it, which begins at the base: of a loaded section it is the flat image's
+-- byte at its address, and else the file's own
 abbrev pub put_byte : List Section → ℕ → List ℕ → List ℕ → ℕ → ℕ
 put_byte sections base file flat place =
     option_map_or (λ section. slice_index flat (section.address + (place - section.place) - base))
@@ -27,7 +33,9 @@ put_byte sections base file flat place =
 
 -- the file with a flat image in it
 abbrev pub put_image : List ℕ → List ℕ → List ℕ
-put_image file flat = map (put_byte (sections_of file) (base_of (sections_of file)) file flat) (range_with_len 0 (length file))
+put_image file flat =
+    let sections = sections_of file in
+    map (put_byte sections (base_of sections) file flat) (range_with_len 0 (length file))
 
 -- where the table begins in the flat image
 abbrev pub table_place : List ℕ → ℕ

@@ -21,8 +21,8 @@ has_other_header file =
 abbrev pub is_outside : List ℕ → Section → Bool
 is_outside file section = nat_lt (length file) (section.place + section.size)
 
--- 2 sections: there is no section header or there are too many, they reach beyond the file, the section of the names isn't
--- one of them, or its bytes reach beyond the file
+-- 2 sections: there is no section header or there are too many, they reach beyond the file, the section of the names
+-- isn't one of them, or its bytes reach beyond the file
 abbrev pub lacks_headers : List ℕ → Bool
 lacks_headers file =
     header_count file == 0
@@ -67,11 +67,12 @@ pub record Test : Type 0 where
   pub kind : ℕ
   pub holds : Bool
 
+-- a kind with whether it holds
 abbrev test : ℕ → Bool → Test
 test kind holds = record { kind = kind; holds = holds }
 
--- the kinds in the order in which they are asked; 5 no-table and 6 two-tables: no loaded section has the table's name, or two
--- have
+-- the kinds in the order in which they are asked; 5 no-table and 6 two-tables: no loaded section has the table's
+-- name, or two have
 abbrev pub tests_of : List ℕ → List Test
 tests_of file =
     test 1 (has_other_header file)

@@ -3,7 +3,8 @@ use Rattle.std.specs.Prelude.{◌+◌, ◌-◌, ◌%◌, ◌^◌, ◌&&◌, ◌�
 use Rattle.std.specs.List.{fold, list_any}
 use Rattle.armcaps_elf.specs.declared.section.Section.{Section}
 
--- whether a section holds a number, as it begins at `begin`: at its address an address, at its place a place of the file
+-- whether a section holds a number, as it begins at `begin`: at its address an address, at its place a place of the
+-- file
 abbrev pub holds : (Section → ℕ) → ℕ → Section → Bool
 holds begin number section = nat_le (begin section) number && nat_lt number (begin section + section.size)
 
@@ -11,8 +12,8 @@ holds begin number section = nat_le (begin section) number && nat_lt number (beg
 abbrev pub shares : (Section → ℕ) → Section → Section → Bool
 shares begin one other = nat_lt (begin one) (begin other + other.size) && nat_lt (begin other) (begin one + one.size)
 
--- whether two of these sections share a number. None of them is empty, so each one shares with itself: two share where one
--- shares with two
+-- whether two of these sections share a number. None of them is empty, so each one shares with itself: two share
+-- where one shares with two
 abbrev pub overlap : (Section → ℕ) → List Section → Bool
 overlap begin sections = list_any (λ one. nat_le 2 (count_by (shares begin one) sections)) sections
 

@@ -43,15 +43,16 @@ pub(crate) struct Extent {
 }
 
 impl Extent {
-    // The extent of the flat image of these sections, or nothing for kind 8: one ends above address 2^64, or it is too long.
+    // The extent of the flat image of these sections, or nothing for kind 8: one ends above address 2^64, or it is
+    // too long.
     pub(crate) fn of(sections: &[Section]) -> Option<Extent>
         ensures none { IfNone result (has_long_span sections.now ≡ true) }
         ensures some { IfSome result (λ extent. has_long_span sections.now ≡ false) }
         ensures base { IfSome result (λ extent. extent.base ≡ base_of sections.now) }
         ensures span { IfSome result (λ extent. extent.span ≡ span_of sections.now) }
         ensures above { IfSome result (λ extent. All (λ section. extent.base ≤ section.address) sections.now) }
-        ensures below { IfSome result (λ extent. All (λ section. section.address + section.size ≤ extent.base + extent.span)
-            sections.now) }
+        ensures below { IfSome result (λ extent.
+            All (λ section. section.address + section.size ≤ extent.base + extent.span) sections.now) }
         ensures small { IfSome result (λ extent. extent.span ≤ 2 ^ 27) }
     {
         let bounds = Bounds::of(sections);

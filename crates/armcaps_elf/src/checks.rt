@@ -38,9 +38,7 @@ pub(crate) fn checked_headers(alloc: Global, file: &[u8]) -> Result<Vec<Header>,
 fn has_section_outside(headers: &[Header], len: usize) -> bool
     ensures { result ≡ list_any (λ header. nat_lt len (header.section.place + header.section.size)) headers.now }
 {
-    headers
-        .iter()
-        .any(|header| reaches_beyond(len, header.section.place, header.section.size))
+    headers.iter().any(|header| reaches_beyond(len, header.section.place, header.section.size))
 }
 
 // The table among these headers of a file, if neither kind 5 nor 6 holds.

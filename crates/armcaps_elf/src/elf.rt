@@ -1,7 +1,9 @@
 //! What is kept of an ELF file.
 
 ghost use Rattle.std.specs.Prelude.{◌≡◌, ◌+◌, ◌<◌, ◌≤◌, ◌^◌};
-ghost use Rattle.std.specs.List.{All};
+ghost use Rattle.std.specs.List.{All, AllPairs};
+ghost use Rattle.std.specs.List.Sorted.{IsPermutation};
+ghost use Rattle.armcaps_elf.specs.Sections.{Follows};
 
 use crate::section::Section;
 use std::marker::Model;
@@ -23,10 +25,20 @@ impl Model for Elf {
     ghost Value = { Loaded };
 
     ghost view = { λ e. record {
-        sections = e.sections.items; base = e.base; span = e.span; table = e.table; entries = e.entries } };
+      sections = e.sections.items;
+      base = e.base;
+      span = e.span;
+      table = e.table;
+      entries = e.entries;
+    } };
 
     ghost invariant = { λ e. IsElf (record {
-        sections = e.sections.items; base = e.base; span = e.span; table = e.table; entries = e.entries }) e.by_place.items };
+      sections = e.sections.items;
+      base = e.base;
+      span = e.span;
+      table = e.table;
+      entries = e.entries;
+    }) e.by_place.items };
 }
 
 impl Elf {
@@ -61,5 +73,15 @@ impl Elf {
         ensures entries { result.1 ≡ self.now.entries }
     {
         (self.table, self.entries)
+    }
+
+    // The loaded sections in the order of their places.
+    pub(crate) fn in_file_order(&self) -> &[Section]
+        ensures same { IsPermutation self.now.sections result.now }
+        ensures rise { AllPairs (Follows (λ section. section.place)) result.now }
+        ensures above { All (λ section. self.now.base ≤ section.address) result.now }
+        ensures below { All (λ section. section.address + section.size ≤ self.now.base + self.now.span) result.now }
+    {
+        &self.by_place
     }
 }

@@ -11,8 +11,8 @@ use crate::section::Section;
 use std::alloc::{AllocError, Global};
 
 impl Elf {
-    /// The flat image of the file that was read: the bytes of its loaded sections at their addresses from the base on, and 0
-    /// where no section is.
+    /// The flat image of the file that was read: the bytes of its loaded sections at their addresses from the base
+    /// on, and 0 where no section is.
     pub fn flat(&self, alloc: Global, bytes: &[u8]) -> Result<Vec<u8>, AllocError>
         requires { StandsFor self.now bytes.now }
         ensures { IfOk result (λ flat. flat.items ≡ flat_image bytes.now) }

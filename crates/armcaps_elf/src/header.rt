@@ -33,7 +33,8 @@ impl Header {
         }
     }
 
-    // Whether the section is loaded and has bytes in the file: flag SHF_ALLOC, neither SHT_NULL nor SHT_NOBITS, not empty.
+    // Whether the section is loaded and has bytes in the file: flag SHF_ALLOC, neither SHT_NULL nor SHT_NOBITS, not
+    // empty.
     pub(crate) fn is_loaded(&self) -> bool
         ensures { result ≡ is_loaded self.now }
     {

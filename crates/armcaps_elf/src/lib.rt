@@ -1,5 +1,5 @@
-//! ELF files of kernels: which of a file's sections are loaded, the flat image that they make in memory, and the file with
-//! another flat image put back into it (System V ABI, "Object Files"; Linux, arch/arm64/kernel/vmlinux.lds.S).
+//! ELF files of kernels: which of a file's sections are loaded, the flat image that they make in memory, and the file
+//! with another flat image put back into it (System V ABI, "Object Files"; Linux, arch/arm64/kernel/vmlinux.lds.S).
 #![tactic(auto)]
 
 mod bounds;
@@ -15,6 +15,8 @@ mod overlaps;
 mod reading;
 mod refused;
 mod section;
+#[cfg(test)]
+mod tests;
 mod writing;
 
 pub use elf::Elf;

@@ -19,8 +19,8 @@ use std::alloc::Global;
 const MOST_TABLE_BYTES: u64 = 12_582_912;
 
 impl Elf {
-    /// Reads the loaded sections of an ELF file of 64 bits. The kinds are asked in their order, and the first that holds is
-    /// the answer.
+    /// Reads the loaded sections of an ELF file of 64 bits. The kinds are asked in their order, and the first that
+    /// holds is the answer.
     pub fn read(alloc: Global, bytes: &[u8]) -> Result<Elf, ElfRefused>
         ensures stands { IfOk result (λ elf. StandsFor elf bytes.now) }
         ensures refused { (kind : ℕ) → result ≡ Err (ElfRefused.Kind kind) → kind_of bytes.now ≡ Some kind }
@@ -57,13 +57,19 @@ fn keep(orders: Orders, extent: Extent, table: &Section) -> Elf
     requires places { AllPairs (Follows (λ section. section.place)) orders.by_place.items }
     requires some { All (λ section. 0 < section.size) orders.by_address.items }
     requires above { All (λ section. extent.base ≤ section.address) orders.by_address.items }
-    requires below { All (λ section. section.address + section.size ≤ extent.base + extent.span) orders.by_address.items }
+    requires below { All (λ section. section.address + section.size ≤ extent.base + extent.span)
+        orders.by_address.items }
     requires small { extent.span ≤ 2 ^ 27 }
     requires table_above { extent.base ≤ table.now.address }
     requires table_below { table.now.address ≤ extent.base + extent.span }
     requires table_size { table.now.size ≤ 12582912 }
-    ensures { result ≡ record { sections = orders.by_address.items; base = extent.base; span = extent.span;
-        table = table.now.address - extent.base; entries = table.now.size / 12 } }
+    ensures { result ≡ record {
+      sections = orders.by_address.items;
+      base = extent.base;
+      span = extent.span;
+      table = table.now.address - extent.base;
+      entries = table.now.size / 12;
+    } }
 {
     Elf {
         table: (table.address - extent.base) as u32,

@@ -5,8 +5,8 @@ use std::alloc::AllocError;
 /// Why a file is refused.
 #[derive(Clone, Copy, Debug, PartialEq, Eq)]
 pub enum ElfRefused {
-    /// This is the least kind, from 1 to 9, that holds of the file: 1 header, 2 sections, 3 outside, 4 name, 5 no-table,
-    /// 6 two-tables, 7 overlap, 8 span, 9 table-size.
+    /// This is the least kind, from 1 to 9, that holds of the file: 1 header, 2 sections, 3 outside, 4 name, 5
+    /// no-table, 6 two-tables, 7 overlap, 8 span, 9 table-size.
     Kind { kind: u8 },
     /// There was no memory.
     Memory,

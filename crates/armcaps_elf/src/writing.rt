@@ -13,24 +13,30 @@ use crate::section::Section;
 use armcaps_io::{Sink, WriteFault, write_whole};
 
 impl Elf {
-    /// Writes the file that was read, with the bytes of its loaded sections taken from a flat image. It takes no memory, and
-    /// copies no byte.
+    /// Writes the file that was read, with the bytes of its loaded sections taken from a flat image. It takes no
+    /// memory, and copies no byte.
     ///
     /// After `WriteFault` the sink has got a first part of it.
-    pub fn write_back<O: Sink>(&self, file: &[u8], flat: &[u8], sink: &mut O) -> Result<(), WriteFault>
+    pub fn write_back<O: Sink>(
+        &self,
+        file: &[u8],
+        flat: &[u8],
+        sink: &mut O,
+    ) -> Result<(), WriteFault>
         requires stands { StandsFor self.now file.now }
         requires span { length flat.now ≡ self.now.span }
         ensures whole { OnOk result (Appends (O.held sink.old) (O.held sink.new) (put_image file.now flat.now)) }
-        ensures prefix { OnErr result (AppendsPrefix (O.held sink.old) (O.held sink.new) (put_image file.now flat.now)) }
+        ensures prefix { OnErr result
+            (AppendsPrefix (O.held sink.old) (O.held sink.new) (put_image file.now flat.now)) }
         ensures never_falls { O.faults sink.old ≤ O.faults sink.new }
         ensures cause { OnErr result (Rose (O.faults sink.old) (O.faults sink.new)) }
     {
-        write_sections(&self.by_place, self.base, file, flat, sink)
+        write_sections(self.in_file_order(), self.base(), file, flat, sink)
     }
 }
 
-// Writes the file with the bytes of these sections, which stand in the order of their places, taken from a flat image that
-// begins at the base.
+// Writes the file with the bytes of these sections, which stand in the order of their places, taken from a flat image
+// that begins at the base.
 fn write_sections<O: Sink>(
     sections: &[Section],
     base: u64,
@@ -71,9 +77,11 @@ fn write_section<O: Sink>(
     requires above { base ≤ section.now.address }
     requires below { section.now.address + section.now.size ≤ base + length flat.now }
     ensures whole { OnOk result (Appends (O.held sink.old) (O.held sink.new)
-        (slice_range file.now done section.now.place ++ take section.now.size (drop (section.now.address - base) flat.now))) }
+        (slice_range file.now done section.now.place
+        ++ take section.now.size (drop (section.now.address - base) flat.now))) }
     ensures prefix { OnErr result (AppendsPrefix (O.held sink.old) (O.held sink.new)
-        (slice_range file.now done section.now.place ++ take section.now.size (drop (section.now.address - base) flat.now))) }
+        (slice_range file.now done section.now.place
+        ++ take section.now.size (drop (section.now.address - base) flat.now))) }
     ensures never_falls { O.faults sink.old ≤ O.faults sink.new }
     ensures cause { OnErr result (Rose (O.faults sink.old) (O.faults sink.new)) }
 {

@@ -1,5 +1,5 @@
 -- No header is the table's, or two are.
-use Rattle.std.proofs.Common.{◌≡◌, ◌<◌, ℕ, List, None, Option, Some, ap, arith, count_by, false, find, is_none, nat_le, sym, true, ◌∙◌}
+use Rattle.std.proofs.Common.{◌≡◌, ◌<◌, ℕ, List, None, Option, Some, ap, arith, count_by, find, is_none, nat_le, sym, true, ◌∙◌}
 use Rattle.std.specs.Option.{option_copied, option_map}
 use Rattle.std.proofs.lemmas.Bool.Decides.{nat_tests}
 use Rattle.armcaps_elf.specs.declared.header.Header.{Header}

@@ -1,4 +1,4 @@
-use Rattle.std.proofs.Common.{◌≡◌, ◌+◌, ◌-◌, ap, arith, drop, get_or, length, length-drop, length-take, refl, take, ◌∙◌}
+use Rattle.std.proofs.Common.{◌≡◌, ◌+◌, ◌-◌, ap, arith, drop, get_or, length, length-drop, length-take, refl, ◌∙◌}
 use Rattle.std.proofs.lemmas.List.{get_or-drop, get_or-take}
 use Rattle.armcaps_elf.proofs.Flat.{put_is}
 use Rattle.armcaps_elf.proofs.flattening.put_section.Goals as goal

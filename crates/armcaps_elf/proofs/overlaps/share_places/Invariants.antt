@@ -1,4 +1,4 @@
-use Rattle.std.proofs.Common.{◌≡◌, ◌+◌, ◌<◌, ◌≤◌, ℕ, get_or}
+use Rattle.std.proofs.Common.{◌+◌, ◌<◌, ℕ, get_or}
 use Rattle.armcaps_elf.specs.declared.section.Section.{Section}
 use Rattle.armcaps_elf.specs.Sections.{Follows}
 use Rattle.armcaps_elf.proofs.overlaps.share_places.Given as goal

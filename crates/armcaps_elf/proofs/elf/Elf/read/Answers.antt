@@ -1,15 +1,15 @@
 -- The parts that were checked make the whole.
-use Rattle.std.proofs.Common.{◌≡◌, ◌+◌, ◌-◌, ◌/◌, ◌<◌, ◌≤◌, ℕ, Bool, Err, List, None, Option, Some, ap, arith, false, length, map, refl, subst, sym, true, ◌∙◌}
-use Rattle.std.specs.List.{All, AllPairs}
+use Rattle.std.proofs.Common.{◌≡◌, ◌+◌, ◌-◌, ◌/◌, ◌<◌, ◌≤◌, Bool, Err, List, Option, Some, ap, arith, false, length, map, subst, sym, true, ◌∙◌}
+use Rattle.std.specs.List.{All}
 use Rattle.std.specs.List.Sorted.{IsPermutation}
 use Rattle.std.specs.Option.{option_map_or}
 use Rattle.std.proofs.lemmas.List.Sorted.{All-permutation, IsPermutation-sym, IsPermutation-trans}
 use Rattle.armcaps_elf.specs.declared.header.Header.{Header}
 use Rattle.armcaps_elf.specs.declared.section.Section.{Section}
 use Rattle.armcaps_elf.specs.declared.refused.ElfRefused.TheVariants.{Kind}
-use Rattle.armcaps_elf.specs.Headers.{sections_of, table_of}
+use Rattle.armcaps_elf.specs.Headers.{sections_of}
 use Rattle.armcaps_elf.specs.Images.{entry_count, table_place}
-use Rattle.armcaps_elf.specs.Refusals.{has_bad_table, has_long_span, has_other_size, has_overlap, kind_of}
+use Rattle.armcaps_elf.specs.Refusals.{has_bad_table, has_long_span, has_other_size, has_overlap}
 use Rattle.armcaps_elf.specs.Sections.{base_of, span_of}
 use Rattle.armcaps_elf.specs.Standing.{Loaded, StandsFor}
 use Rattle.armcaps_elf.proofs.FirstKind.{kind-7, kind-8, kind-9, kind-none}
@@ -110,8 +110,8 @@ returns-clause-stands c =
       sections = subst (λ xs. IsPermutation xs c.in-Ok.orders.by_address.items) (c.deref-3.ensures.value ∙ whole) c.in-Ok.ensures.same;
       rise = c.in-Ok.ensures.rise;
       inside = All-permutation (λ (s : Section). s.place + s.size ≤ length file) _ _
-        (subst (λ xs. IsPermutation xs c.in-Ok.orders.by_address.items) (c.deref-3.ensures.value ∙ whole) c.in-Ok.ensures.same)
-        (sections_inside file c.in_ok-headers.ensures.passed.inside);
+          (subst (λ xs. IsPermutation xs c.in-Ok.orders.by_address.items) (c.deref-3.ensures.value ∙ whole) c.in-Ok.ensures.same)
+          (sections_inside file c.in_ok-headers.ensures.passed.inside);
       base = base;
       span = c.in-Some.ensures.span ∙ ap span_of (c.deref-4.ensures.value ∙ whole);
       table = place;
