@@ -1,7 +1,8 @@
 -- The first kind that holds.
-use Rattle.std.proofs.Common.{◌≡◌, ℕ, Bool, List, None, Option, Some, [], ◌∷◌, false, find, is_none, nat_le, refl, true, ◌∙◌}
+use Rattle.std.proofs.Common.{◌≡◌, ◌||◌, ℕ, Bool, List, None, Option, Some, [], ◌∷◌, false, find, is_none, nat_le, refl, true, ◌∙◌}
 use Rattle.std.specs.Option.{option_map}
 use Rattle.armcaps_elf.specs.Headers.{sections_of, table_of}
+use Rattle.armcaps_elf.specs.Sections.{overlap}
 use Rattle.armcaps_elf.specs.Refusals.{HasHeaders, HasTable, Test, has_bad_table, has_long_span, has_open_name, has_other_header, has_overlap, has_section_outside, kind_of, lacks_headers, table_count}
 
 abbrev first : List Test → Option ℕ
@@ -92,3 +93,27 @@ module _ (file : List ℕ) where
       → has_bad_table file ≡ false → kind_of file ≡ None
   kind-none passed table none-7 none-8 none-9 =
       after-6 passed table ∙ (later 7 _ from8 none-7 ∙ (later 8 _ from9 none-8 ∙ later 9 _ [] none-9))
+
+-- where none holds, none of them does
+skipped : (kind : ℕ) (holds : Bool) (tests : List Test) → first (behind kind holds tests) ≡ None → (holds ≡ false) × (first tests ≡ None)
+skipped kind true tests none = let never : ⊥ = cc in absurd never
+skipped kind false tests none = (refl, none)
+
+neither : (a b : Bool) → (a || b) ≡ false → a ≡ false
+neither true b none = none
+neither false b none = refl
+
+-- of a file that isn't refused no two sections share an address
+pub none_overlap : (file : List ℕ) → kind_of file ≡ None
+    → overlap (λ section. section.address) (sections_of file) ≡ false
+unfolding kind_of
+none_overlap file none =
+    let all : first (behind 1 (has_other_header file) (from2 file)) ≡ None = none in
+    let two = (skipped 1 (has_other_header file) (from2 file) all).1 in
+    let three = (skipped 2 (lacks_headers file) (from3 file) two).1 in
+    let four = (skipped 3 (has_section_outside file) (from4 file) three).1 in
+    let five = (skipped 4 (has_open_name file) (from5 file) four).1 in
+    let six = (skipped 5 (is_none (table_of file)) (from6 file) five).1 in
+    let seven = (skipped 6 (nat_le 2 (table_count file)) (from7 file) six).1 in
+    let eight = (skipped 7 (has_overlap (sections_of file)) (from8 file) seven).0 in
+    neither (overlap (λ section. section.address) (sections_of file)) (overlap (λ section. section.place) (sections_of file)) eight

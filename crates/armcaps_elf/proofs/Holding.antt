@@ -15,7 +15,7 @@ found_here : {X : Type 0} (b : Bool) (y x : X) (rest : Option X) → (b ≡ true
 found_here true y x rest same later = ap Some (same refl)
 found_here false y x rest same later = later refl
 
-find_unique : {X : Type 0} (p : X → Bool) (xs : List X) (x : X) (k : ℕ) → k < length xs → get_or xs k x ≡ x → p x ≡ true
+pub find_unique : {X : Type 0} (p : X → Bool) (xs : List X) (x : X) (k : ℕ) → k < length xs → get_or xs k x ≡ x → p x ≡ true
     → All (λ y. p y ≡ true → y ≡ x) xs → find p xs ≡ Some x
 find_unique p [] x k within is pass same = absurd (omega arith)
 find_unique p (y ∷ ys) x zero within is pass same =

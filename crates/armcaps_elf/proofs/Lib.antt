@@ -1,8 +1,10 @@
 -- Lemmas, by subject.
+mod Covering
 mod Files
 mod FirstKind
 mod Flat
 mod Holding
 mod Names
+mod OwnImage
 mod Sharing
 mod Written

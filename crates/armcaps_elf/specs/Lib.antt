@@ -3,4 +3,5 @@ pub mod Headers
 pub mod Sections
 pub mod Refusals
 pub mod Images
+pub mod Stretches
 pub mod Standing

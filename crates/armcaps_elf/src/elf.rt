@@ -1,11 +1,13 @@
 //! What is kept of an ELF file.
 
-ghost use Rattle.std.specs.Prelude.{◌≡◌, ◌+◌, ◌<◌, ◌≤◌, ◌^◌};
+ghost use Rattle.std.specs.Prelude.{◌≡◌, ◌+◌, ◌<◌, ◌≤◌, ◌^◌, ℕ, false, true};
 ghost use Rattle.std.specs.List.{All, AllPairs};
 ghost use Rattle.std.specs.List.Sorted.{IsPermutation};
 ghost use Rattle.armcaps_elf.specs.Sections.{Follows};
+ghost use Rattle.armcaps_elf.specs.Stretches.{is_held};
 
 use crate::section::Section;
+use crate::stretch::{Stretch, are_covered};
 use std::marker::Model;
 
 /// An ELF file of 64 bits whose loaded sections were read and checked. It keeps no byte of the file.
@@ -13,6 +15,7 @@ use std::marker::Model;
 pub struct Elf {
     pub(crate) sections: Vec<Section>,
     pub(crate) by_place: Vec<Section>,
+    pub(crate) stretches: Vec<Stretch>,
     pub(crate) base: u64,
     pub(crate) span: u64,
     pub(crate) table: u32,
@@ -38,7 +41,7 @@ impl Model for Elf {
       span = e.span;
       table = e.table;
       entries = e.entries;
-    }) e.by_place.items };
+    }) e.by_place.items e.stretches.items };
 }
 
 impl Elf {
@@ -73,6 +76,17 @@ impl Elf {
         ensures entries { result.1 ≡ self.now.entries }
     {
         (self.table, self.entries)
+    }
+
+    /// Whether each of so many bytes of the flat image from a place on lies in a loaded section.
+    pub fn covers(&self, start: u64, length: u64) -> bool
+        requires { start + length < 2 ^ 40 }
+        ensures all { result ≡ true → (n : ℕ) → start ≤ n → n < start + length
+            → is_held self.now.sections (self.now.base + n) ≡ true }
+        ensures some { result ≡ false → (n : ℕ) × (start ≤ n) × (n < start + length)
+            × (is_held self.now.sections (self.now.base + n) ≡ false) }
+    {
+        are_covered(&self.stretches, start, start + length)
     }
 
     // The loaded sections in the order of their places.

@@ -9,16 +9,19 @@ mod fields;
 mod flattening;
 mod header;
 mod headers;
+mod laws;
 mod naming;
 mod ordering;
 mod overlaps;
 mod reading;
 mod refused;
 mod section;
+mod stretch;
 #[cfg(test)]
 mod tests;
 mod writing;
 
 pub use elf::Elf;
+pub use laws::{changed_byte_is_loaded, own_image_stays};
 pub use refused::ElfRefused;
 pub use section::Section;

@@ -1,11 +1,12 @@
 //! The reading of a file.
 
 ghost use Rattle.std.specs.Prelude.{◌≡◌, ◌+◌, ◌-◌, ◌<◌, ◌≤◌, ◌/◌, ◌^◌, ℕ, Err, IfOk, Some};
-ghost use Rattle.std.specs.List.{All, AllPairs};
+ghost use Rattle.std.specs.List.{All, AllPairs, list_any};
 ghost use Rattle.std.specs.List.Sorted.{IsPermutation};
 ghost use Rattle.armcaps_elf.specs.Refusals.{has_other_size, kind_of};
 ghost use Rattle.armcaps_elf.specs.Sections.{Follows};
 ghost use Rattle.armcaps_elf.specs.Standing.{StandsFor};
+ghost use Rattle.armcaps_elf.specs.Stretches.{IsApart, in_stretch, is_held};
 
 use crate::bounds::Extent;
 use crate::checks::{checked_headers, checked_table, sections};
@@ -13,6 +14,7 @@ use crate::elf::Elf;
 use crate::ordering::Orders;
 use crate::refused::ElfRefused;
 use crate::section::Section;
+use crate::stretch::{Stretch, stretches_of};
 use std::alloc::Global;
 
 // How many bytes a table has at most: 1,048,576 entries.
@@ -39,7 +41,8 @@ impl Elf {
         if has_other_size(&table) {
             return Err(ElfRefused::Kind { kind: 9 });
         }
-        Ok(keep(orders, extent, &table))
+        let stretches = stretches_of(alloc, &orders.by_address, extent.base)?;
+        Ok(keep(orders, stretches, extent, &table))
     }
 }
 
@@ -51,7 +54,7 @@ fn has_other_size(table: &Section) -> bool
 }
 
 // What is kept of the sections, where their flat image is, and the table among them.
-fn keep(orders: Orders, extent: Extent, table: &Section) -> Elf
+fn keep(orders: Orders, stretches: Vec<Stretch>, extent: Extent, table: &Section) -> Elf
     requires same { IsPermutation orders.by_address.items orders.by_place.items }
     requires rise { AllPairs (Follows (λ section. section.address)) orders.by_address.items }
     requires places { AllPairs (Follows (λ section. section.place)) orders.by_place.items }
@@ -60,6 +63,9 @@ fn keep(orders: Orders, extent: Extent, table: &Section) -> Elf
     requires below { All (λ section. section.address + section.size ≤ extent.base + extent.span)
         orders.by_address.items }
     requires small { extent.span ≤ 2 ^ 27 }
+    requires held { (n : ℕ)
+        → list_any (in_stretch n) stretches.items ≡ is_held orders.by_address.items (extent.base + n) }
+    requires apart { IsApart stretches.items }
     requires table_above { extent.base ≤ table.now.address }
     requires table_below { table.now.address ≤ extent.base + extent.span }
     requires table_size { table.now.size ≤ 12582912 }
@@ -78,5 +84,6 @@ fn keep(orders: Orders, extent: Extent, table: &Section) -> Elf
         span: extent.span,
         sections: orders.by_address,
         by_place: orders.by_place,
+        stretches,
     }
 }

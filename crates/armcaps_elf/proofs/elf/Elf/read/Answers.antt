@@ -117,3 +117,23 @@ returns-clause-stands c =
       table = place;
       entries = entries;
     })
+
+pub stretches_of-requires-clause-some : goal.stretches_of-requires-clause-some
+stretches_of-requires-clause-some c =
+    let whole = c.in_ok-sections.ensures ∙ ap sections_in (c.deref-2.ensures.value ∙ c.in_ok-headers.ensures.headers) in
+    let all = All-permutation (λ (s : Section). 0 < s.size) _ _ c.in-Ok.ensures.same
+      (subst AllSome (sym (c.deref-3.ensures.value ∙ whole)) (none_empty c.args.bytes.now)) in
+    subst AllSome (sym c.deref-5.ensures.value) all
+
+pub stretches_of-requires-clause-above : goal.stretches_of-requires-clause-above
+stretches_of-requires-clause-above c =
+    let P = λ (s : Section). c.in-Some.extent.base ≤ s.address in
+    let same = subst (λ xs. IsPermutation xs c.in-Ok.orders.by_address.items) (c.deref-3.ensures.value ∙ sym c.deref-4.ensures.value) c.in-Ok.ensures.same in
+    subst (All P) (sym c.deref-5.ensures.value) (All-permutation P _ _ same c.in-Some.ensures.above)
+
+pub stretches_of-requires-clause-below : goal.stretches_of-requires-clause-below
+stretches_of-requires-clause-below c = λ k d within.
+    let P = λ (s : Section). s.address + s.size ≤ c.in-Some.extent.base + c.in-Some.extent.span in
+    let same = subst (λ xs. IsPermutation xs c.in-Ok.orders.by_address.items) (c.deref-3.ensures.value ∙ sym c.deref-4.ensures.value) c.in-Ok.ensures.same in
+    let all = subst (All P) (sym c.deref-5.ensures.value) (All-permutation P _ _ same c.in-Some.ensures.below) in
+    omega (arith, all k d within, c.in-Some.ensures.small)
