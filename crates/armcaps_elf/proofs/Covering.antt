@@ -52,16 +52,16 @@ ends_early xs count start apart some within before behind e =
     let n = max start (get_or xs (count - 1) e).end in
     list_any_none (in_stretch n) xs (λ k d short. elim (cases_lt k count) [
       | inl low ↦ elim (cases_lt k (count - 1)) [
-          | inl earlier ↦
-              let next = apart.apart k (count - 1) d earlier (omega arith) in
-              let begins = before (count - 1) d (omega arith) in
-              out_of_it n (get_or xs k d) (inr (omega arith))
-          | inr last ↦
-              let same : count - 1 ≡ k = omega arith in
-              let ends : (get_or xs (count - 1) e).end ≡ (get_or xs k d).end =
-              ap (λ i. (get_or xs i e).end) same ∙ ap (λ s. s.end) (get_or_default xs k e d short) in
-              out_of_it n (get_or xs k d) (inr (omega (arith, ends)))
-        ]
+        | inl earlier ↦
+            let next = apart.apart k (count - 1) d earlier (omega arith) in
+            let begins = before (count - 1) d (omega arith) in
+            out_of_it n (get_or xs k d) (inr (omega arith))
+        | inr last ↦
+            let same : count - 1 ≡ k = omega arith in
+            let ends : (get_or xs (count - 1) e).end ≡ (get_or xs k d).end =
+            ap (λ i. (get_or xs i e).end) same ∙ ap (λ s. s.end) (get_or_default xs k e d short) in
+            out_of_it n (get_or xs k d) (inr (omega (arith, ends)))
+      ]
       | inr high ↦
           let next = apart.apart (count - 1) k e (omega arith) short in
           let begins = behind k e high short in
@@ -130,7 +130,7 @@ one_more xs last more apart behind gap some =
     let size = length-append xs (last ∷ []) in
     let own = last_some xs last apart in
     let end : last.end ≤ more.begin = subst (λ (s : Stretch). s.end ≤ more.begin) (at_end xs last (length xs) last (omega arith) (omega (arith, size)))
-      (behind (length xs) last (omega (arith, size))) in
+    (behind (length xs) last (omega (arith, size))) in
     push_apart (xs ++ last ∷ []) more apart.some apart.apart some (λ k d within. elim (cases_lt k (length xs)) [
       | inl low ↦
           let before = front_end xs last k d apart low in
@@ -144,9 +144,9 @@ pub same_bytes : (address size base n : ℕ) → base ≤ address
 same_bytes address size base n above = elim (cases_lt n (address - base)) [
   | inl low ↦ outside (address - base) size n (inl low) ∙ sym (outside address size (base + n) (inl (omega arith)))
   | inr high ↦ elim (cases_lt n (address - base + size)) [
-      | inl short ↦ inside (address - base) size n high short ∙ sym (inside address size (base + n) (omega arith) (omega arith))
-      | inr long ↦ outside (address - base) size n (inr long) ∙ sym (outside address size (base + n) (inr (omega arith)))
-    ]
+    | inl short ↦ inside (address - base) size n high short ∙ sym (inside address size (base + n) (omega arith) (omega arith))
+    | inr long ↦ outside (address - base) size n (inr long) ∙ sym (outside address size (base + n) (inr (omega arith)))
+  ]
 ]
   where
     inside : (begins size n : ℕ) → begins ≤ n → n < begins + size → (nat_le begins n && nat_lt n (begins + size)) ≡ true

@@ -98,11 +98,11 @@ find_only begin a ss s none there is =
     elim (cases_lt i k) [
       | inl before ↦ absurd (one_holds begin a ss i k s none before there.1 other here)
       | inr after ↦ elim (cases_lt k i) [
-          | inl behind ↦ absurd (one_holds begin a ss k i s none behind short here other)
-          | inr same ↦
-              let equal : i ≡ k = omega arith in
-              get_or_default ss i d s short ∙ (ap (λ n. get_or ss n s) equal ∙ there.2)
-        ]
+        | inl behind ↦ absurd (one_holds begin a ss k i s none behind short here other)
+        | inr same ↦
+            let equal : i ≡ k = omega arith in
+            get_or_default ss i d s short ∙ (ap (λ n. get_or ss n s) equal ∙ there.2)
+      ]
     ])
 
 moved : (begins place size number : ℕ) → (nat_le place number && nat_lt number (place + size)) ≡ true

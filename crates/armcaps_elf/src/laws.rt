@@ -11,8 +11,7 @@ ghost use Rattle.armcaps_elf.specs.Sections.{holds};
 /// A file that isn't refused stays as it is when its own flat image is put into it.
 pub fn own_image_stays()
     ensures { (file : List ℕ) → kind_of file ≡ None → put_image file (flat_image file) ≡ file }
-{
-}
+{}
 
 /// A byte of a file that changes when a flat image is put into it lies in a loaded section, and the flat image has changed at
 /// the byte's address.
@@ -23,5 +22,4 @@ pub fn changed_byte_is_loaded()
         × (holds (λ s. s.place) place section ≡ true)
         × (slice_index flat (flat_place (sections_of file) section place)
         ≢ slice_index (flat_image file) (flat_place (sections_of file) section place)) }
-{
-}
+{}

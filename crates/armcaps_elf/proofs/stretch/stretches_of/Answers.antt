@@ -23,14 +23,14 @@ loop-section-preserved c =
     let above = c.requires.above index nothing within in
     record {
       held = λ n.
-        c.in_ok-add.ensures.held n
-        ∙ (both (c.loop-section.invariant.held n) (same_bytes x.address x.size base n above)
-        ∙ sym (list_any_more (holds (λ s. s.address) (base + n)) xs index nothing within));
+          c.in_ok-add.ensures.held n
+          ∙ (both (c.loop-section.invariant.held n) (same_bytes x.address x.size base n above)
+          ∙ sym (list_any_more (holds (λ s. s.address) (base + n)) xs index nothing within));
       apart = c.in_ok-add.ensures.apart;
       behind = λ j d high short k e inside.
-        let end = c.in_ok-add.ensures.behind k e inside in
-        let follow = c.requires.rise index j d (omega arith) short in
-        let same : (get_or xs index d).address + (get_or xs index d).size ≡ x.address + x.size =
-        ap (λ (s : Section). s.address + s.size) (get_or_default xs index d nothing within) in
-        omega (arith, end, follow, same, above);
+          let end = c.in_ok-add.ensures.behind k e inside in
+          let follow = c.requires.rise index j d (omega arith) short in
+          let same : (get_or xs index d).address + (get_or xs index d).size ≡ x.address + x.size =
+          ap (λ (s : Section). s.address + s.size) (get_or_default xs index d nothing within) in
+          omega (arith, end, follow, same, above);
     }

@@ -11,5 +11,5 @@ invariant-loop-section l = record {
   held : (n : ℕ) → list_any (in_stretch n) l.stretches.items ≡ is_held (take l.section-index l.sections) (l.base + n);
   apart : IsApart l.stretches.items;
   behind : (j : ℕ) (d : Section) → l.section-index ≤ j → j < length l.sections
-    → All (λ (s : Stretch). s.end ≤ (get_or l.sections j d).address - l.base) l.stretches.items;
+      → All (λ (s : Stretch). s.end ≤ (get_or l.sections j d).address - l.base) l.stretches.items;
 }

@@ -122,7 +122,7 @@ pub stretches_of-requires-clause-some : goal.stretches_of-requires-clause-some
 stretches_of-requires-clause-some c =
     let whole = c.in_ok-sections.ensures ∙ ap sections_in (c.deref-2.ensures.value ∙ c.in_ok-headers.ensures.headers) in
     let all = All-permutation (λ (s : Section). 0 < s.size) _ _ c.in-Ok.ensures.same
-      (subst AllSome (sym (c.deref-3.ensures.value ∙ whole)) (none_empty c.args.bytes.now)) in
+    (subst AllSome (sym (c.deref-3.ensures.value ∙ whole)) (none_empty c.args.bytes.now)) in
     subst AllSome (sym c.deref-5.ensures.value) all
 
 pub stretches_of-requires-clause-above : goal.stretches_of-requires-clause-above
