@@ -29,9 +29,8 @@ pub record StandsFor (loaded : Loaded) (file : List ℕ) : Type 0 where
   pub table : loaded.table ≡ table_place file
   pub entries : loaded.entries ≡ entry_count file
 
--- what is kept beside that: the sections also in the order of their places, and the
--- stretches of them. None is empty, none shares bytes with
--- another, and all are within the flat image
+-- what is kept beside that: the sections also in the order of their places, and the stretches that they make. No
+-- section is empty, none shares bytes with another, and all are within the flat image
 pub record IsElf (loaded : Loaded) (by_place : List Section) (stretches : List Stretch) : Type 0 where
   pub same : IsPermutation loaded.sections by_place
   pub rise : AllPairs (Follows (λ section. section.address)) loaded.sections

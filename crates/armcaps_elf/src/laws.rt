@@ -13,8 +13,8 @@ pub fn own_image_stays()
     ensures { (file : List ℕ) → kind_of file ≡ None → put_image file (flat_image file) ≡ file }
 {}
 
-/// A byte of a file that changes when a flat image is put into it lies in a loaded section, and the flat image has changed at
-/// the byte's address.
+/// A byte of a file that changes when a flat image is put into it lies in a loaded section, and that image differs at
+/// the byte's address from the file's own.
 pub fn changed_byte_is_loaded()
     ensures { (file flat : List ℕ) (place : ℕ) → kind_of file ≡ None → place < length file
         → slice_index (put_image file flat) place ≢ slice_index file place
