@@ -34,7 +34,8 @@ fn exit<S: Source, O: Sink, E: Sink>(
     requires { machines.old.items ≡ [] }
     ensures untouched { reads_input (command_of (map string_bytes words.now)) ≡ false → input.new ≡ input.old }
     ensures promises { Promises (command_of (map string_bytes words.now)) (change S.left S.faults input.old input.new)
-        (change O.held O.faults out.old out.new) (change E.held E.faults err.old err.new) machines.new.items (exit_status result) }
+        (change O.held O.faults out.old out.new) (change E.held E.faults err.old err.new) machines.new.items
+        (exit_status result) }
 {
     ExitCode::from(run(alloc, words, input, out, err, machines))
 }

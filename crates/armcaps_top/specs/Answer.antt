@@ -44,22 +44,24 @@ read_or_not (Err refused) = Err (NotRead refused)
 -- what a query writes of the steps of a board, the newest first, none of which stops the machine
 abbrev pub query_output : Query → Board → List Event → Result (List ℕ) Reason
 query_output Report board steps = Ok (report_of (findings_after board steps))
-query_output (Mrs core word) board steps = read_or_not (read_output core word (user_read (findings_after board steps) core word))
+query_output (Mrs core word) board steps =
+    read_or_not (read_output core word (user_read (findings_after board steps) core word))
 query_output Trace board steps = Ok (trace_of board steps)
 
 -- what a command writes of a document where no step stops its machine
 abbrev pub output_in : Command → Document → Result (List ℕ) Reason
 output_in (Ask query) found = query_output query found.reading.board (steps_of found)
 output_in Patch found = patch_output found.reading.board (steps_of found) found.reading found.image
-output_in (Demo seed cores) found = Ok (demo_output seed cores found.reading.board (steps_of found) found.reading found.image)
+output_in (Demo seed cores) found =
+    Ok (demo_output seed cores found.reading.board (steps_of found) found.reading found.image)
 
 -- nothing is written where the machine was stopped
 abbrev pub unless_stopped : Option Halt → Result (List ℕ) Reason → Result (List ℕ) Reason
 unless_stopped None output = output
 unless_stopped (Some halt) output = Err (Panicked halt)
 
--- what a command makes of its input: the documents whose machines are brought up, in their order up to the first that a step
--- stops, and what is written, or the reason why nothing is
+-- what a command makes of its input: the documents whose machines are brought up, in their order up to the first that
+-- a step stops, and what is written, or the reason why nothing is
 pub record Answer : Type 0 where
   pub machines : List Document
   pub output : Result (List ℕ) Reason
@@ -70,7 +72,8 @@ refused refusal = record { machines = []; output = Err (Refused refusal) }
 
 -- what a command makes of one document, or of an input that is none
 abbrev pub of_document : Command → Result Document Refusal → Answer
-of_document command (Ok found) = record { machines = found ∷ []; output = unless_stopped (halt_in found) (output_in command found) }
+of_document command (Ok found) =
+    record { machines = found ∷ []; output = unless_stopped (halt_in found) (output_in command found) }
 of_document command (Err refusal) = refused refusal
 
 -- what a command makes of the bytes of its input; `demo` has a document of its own, which is made from its words

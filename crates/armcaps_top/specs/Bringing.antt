@@ -14,13 +14,15 @@ use Rattle.armcaps_text.specs.Document.{Reading}
 abbrev pub steps_before : ℕ → List Event → List Event
 steps_before index events = reverse (take index events)
 
--- the machine of the board has made the steps before this index, of steps that stand in order, and none of them stopped it
+-- the machine of the board has made the steps before this index, of steps that stand in order, and none of them
+-- stopped it
 pub record IsAt (index : ℕ) (events : List Event) (board : Board) (world : World) : Type 0 where
   pub order : in_order board (reverse events) ≡ true
   pub after : IsAfter board (steps_before index events) world
   pub going : halt_of board (steps_before index events) ≡ None
 
--- the machine of a reading has made no step yet, these are its steps, and if none of them stops it, it is safe after them
+-- the machine of a reading has made no step yet, these are its steps, and if none of them stops it, it is safe after
+-- them
 pub record IsBegun (reading : Reading) (events : List Event) (world : World) : Type 0 where
   pub at : IsAt 0 events world.board world
   pub complete : is_complete (reverse events) ≡ true

@@ -29,7 +29,8 @@ within least most (Some number) = if nat_lt number least || nat_lt most number t
 
 -- a number of at most so many decimal digits, within these bounds
 abbrev pub bounded_number : ℕ → ℕ → ℕ → List ℕ → Option ℕ
-bounded_number digits least most text = if nat_lt digits (length text) then None else within least most (digits_number 10 text)
+bounded_number digits least most text =
+    if nat_lt digits (length text) then None else within least most (digits_number 10 text)
 
 -- a seed: 1 to 10 decimal digits, below 2^32
 abbrev pub seed_number : List ℕ → Option ℕ

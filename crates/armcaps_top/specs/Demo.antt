@@ -1,4 +1,5 @@
--- What `demo` writes: what comes of a machine and its image that are made from a number. The lines are this project's own.
+-- What `demo` writes: what comes of a machine and its image that are made from a number. The lines are this
+-- project's own.
 use Rattle.std.specs.Prelude.{ℕ, ◌==◌, ◌*◌, ◌/◌, ◌++◌, Bool, true, false, not, List, codes, count_by, length, sum_by}
 use Rattle.std.specs.Fmt.{decimal}
 use Rattle.std.specs.List.{list_any, range_with_len}
@@ -32,11 +33,13 @@ stands_parked _ = false
 
 -- how many cores are in such a state
 abbrev pub cores_that : (CoreState → Bool) → Findings → ℕ
-cores_that test found = count_by (λ number. test (state_at found.states number)) (range_with_len 0 (length found.board.cores))
+cores_that test found =
+    count_by (λ number. test (state_at found.states number)) (range_with_len 0 (length found.board.cores))
 
 -- how many words of an image the sites of entries cover: those whose first byte lies in the site of some entry
 abbrev pub words_covered : List ℕ → List Entry → ℕ
-words_covered image entries = count_by (λ index. list_any (covers (4 * index)) entries) (range_with_len 0 (length image / 4))
+words_covered image entries =
+    count_by (λ index. list_any (covers (4 * index)) entries) (range_with_len 0 (length image / 4))
 
 -- whether the word at an index differs in two images
 abbrev pub is_changed : List ℕ → List ℕ → ℕ → Bool
@@ -69,7 +72,8 @@ title_line seed cores = codes "armcaps demo " ++ decimal seed ++ codes " " ++ de
 
 -- how many cores are admitted, and how many are parked
 abbrev pub cores_line : Counts → List ℕ
-cores_line counts = codes "admitted " ++ decimal counts.admitted ++ codes " parked " ++ decimal counts.parked ++ codes "\n"
+cores_line counts =
+    codes "admitted " ++ decimal counts.admitted ++ codes " parked " ++ decimal counts.parked ++ codes "\n"
 
 -- how many entries the table has, and how many of them are selected
 abbrev pub entries_line : Counts → List ℕ
@@ -77,7 +81,8 @@ entries_line counts = codes "entries 20000 selected " ++ decimal counts.selected
 
 -- how many words a selected site covers, and how many words are changed
 abbrev pub words_line : Counts → List ℕ
-words_line counts = codes "words " ++ decimal counts.covered ++ codes " changed " ++ decimal counts.changed ++ codes "\n"
+words_line counts =
+    codes "words " ++ decimal counts.covered ++ codes " changed " ++ decimal counts.changed ++ codes "\n"
 
 -- the sum of the patched image's words
 abbrev pub sum_line : Counts → List ℕ

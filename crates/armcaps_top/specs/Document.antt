@@ -27,7 +27,8 @@ unless_refused (Some refusal) found = Err refusal
 -- of a text that reads so up to this place
 abbrev pub with_image : Reading → ℕ → List ℕ → Result Document Refusal
 with_image reading place input =
-    unless_refused (image_refusal reading.image (length input - place)) (record { reading = reading; image = drop place input })
+    unless_refused (image_refusal reading.image (length input - place))
+    (record { reading = reading; image = drop place input })
 
 -- of an input whose text comes to this
 abbrev pub document_after : Outcome → List ℕ → Result Document Refusal

@@ -79,7 +79,8 @@ pub record IsHalted (reading : Reading) (reason : Reason) (old new : List World)
   pub world : World
   pub left : new ≡ old ++ world ∷ []
   pub machine : IsAfter reading.board (steps_made reading.board (history reading.steps)) world
-  pub stopped : (output : Result (List ℕ) Reason) → unless_stopped (halt_of reading.board (history reading.steps)) output ≡ Err reason
+  pub stopped : (output : Result (List ℕ) Reason)
+      → unless_stopped (halt_of reading.board (history reading.steps)) output ≡ Err reason
 
 -- what stopped a machine, as it is answered
 abbrev pub IsHaltOf : Option Halt → Result (Unit {0}) Ending → Type 0
@@ -130,7 +131,8 @@ Answers command reading machines made =
     (image : List ℕ) → Comes (of_document command (Ok (record { reading = reading; image = image }))) machines made
 
 -- what became of an answer: how it was written, or how the run ends in its place
-pub record Ends (command : Command) (answer : Answer) (out : Change) (machines : List World) (ending : Ending) : Type 0 where
+pub record Ends (command : Command) (answer : Answer) (out : Change) (machines : List World) (ending : Ending)
+    : Type 0 where
   pub so : (input : Change) → IsReadWhole (Some command) input → EndsSo (Some command) answer input out ending
   pub read : ending ≢ ReadFault
   pub safe : ending ≡ Done → AreSafe answer.machines

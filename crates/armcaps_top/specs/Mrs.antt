@@ -1,5 +1,5 @@
--- What `mrs CORE WORD` writes: what a program on the core reads by the instruction, or why it reads nothing. The texts are this
--- project's own.
+-- What `mrs CORE WORD` writes: what a program on the core reads by the instruction, or why it reads nothing. The
+-- texts are this project's own.
 use Rattle.std.specs.Prelude.{ℕ, ◌==◌, ◌/◌, ◌%◌, ◌^◌, if◌then◌else◌, List, [], ◌∷◌, ◌++◌, map, codes, Result, Ok, Err}
 use Rattle.std.specs.Char.{digit_char}
 use Rattle.std.specs.Fmt.{decimal}

@@ -16,7 +16,8 @@ use Rattle.armcaps_top.specs.declared.reason.Reason.TheVariants.{NotPatched}
 
 -- the text of a refused entry, as `entry 0: kind 8 literal`
 unfoldable pub entry_text : ℕ → PatchKind → List ℕ
-entry_text entry kind = codes "entry " ++ decimal entry ++ codes ": kind " ++ decimal (kind_number kind) ++ codes " " ++ kind_word kind
+entry_text entry kind =
+    codes "entry " ++ decimal entry ++ codes ": kind " ++ decimal (kind_number kind) ++ codes " " ++ kind_word kind
 
 -- the image, unless an entry is refused
 abbrev pub unless_entry_refused : Option alternatives.Refusal → List ℕ → Result (List ℕ) Reason
@@ -30,8 +31,10 @@ patched_by features reading image =
 
 -- the image patched once all steps of a board are made
 abbrev pub patch_output : Board → List Event → Reading → List ℕ → Result (List ℕ) Reason
-patch_output board steps reading image = patched_by (features_of_findings (findings_after board steps) reading.names) reading image
+patch_output board steps reading image =
+    patched_by (features_of_findings (findings_after board steps) reading.names) reading image
 
 -- the patched image of what a reading brings up
 abbrev pub image_for : Board → List Event → Reading → List ℕ → List ℕ
-image_for board steps reading image = patched_image (features_of_findings (findings_after board steps) reading.names) image reading.layout
+image_for board steps reading image =
+    patched_image (features_of_findings (findings_after board steps) reading.names) image reading.layout

@@ -23,8 +23,8 @@ use Rattle.armcaps_top.specs.declared.reason.Reason.TheVariants.{Refused}
 use Rattle.armcaps_top.specs.declared.refusal.Refusal.{Refusal}
 use Rattle.armcaps_top.specs.declared.refusal.Refusal.TheVariants.{TooLong}
 
--- of its input a command reads at most so many bytes: one more than the greatest limit, which is that of format 2; nothing where
--- the words are no form, and nothing under `demo`
+-- of its input a command reads at most so many bytes: one more than the greatest limit, which is that of format 2;
+-- nothing where the words are no form, and nothing under `demo`
 abbrev pub most_read : Option Command → ℕ
 most_read None = 0
 most_read (Some (Ask query)) = 537919489
@@ -98,8 +98,8 @@ AreMachinesOf [] (world ∷ others) = ⊥
 AreMachinesOf (found ∷ more) [] = ⊥
 AreMachinesOf (found ∷ more) (world ∷ others) = IsMachineOf found world × AreMachinesOf more others
 
--- of each document: each system feature that is enabled is had by every admitted core, each workaround that an admitted core needs
--- is enabled, and a core with steps is admitted, or parked by its first cause
+-- of each document: each system feature that is enabled is had by every admitted core, each workaround that an
+-- admitted core needs is enabled, and a core with steps is admitted, or parked by its first cause
 abbrev pub AreSafe : List Document → Type 0
 AreSafe [] = Unit {0}
 AreSafe (found ∷ more) = IsSafe found.reading.board (steps_of found) × AreSafe more
@@ -112,9 +112,10 @@ is_some_stopped machines = list_any (λ found. is_some (halt_in found)) machines
 abbrev pub IsRefused : Answer → Type 0
 IsRefused answer = (refusal : Refusal) × (answer ≡ refused refusal)
 
--- what a run promises of a command, its input, the output and the error stream, the machines that it leaves, and its status; no
--- command where the words are no form of one
-pub record Promises (command : Option Command) (input out err : Change) (machines : List World) (status : ℕ) : Type 0 where
+-- what a run promises of a command, its input, the output and the error stream, the machines that it leaves, and its
+-- status; no command where the words are no form of one
+pub record Promises (command : Option Command) (input out err : Change) (machines : List World) (status : ℕ)
+    : Type 0 where
   -- the bytes of the input, which the command works on
   pub bytes : List ℕ
   pub told_bytes : AreBytesOf command input bytes
@@ -126,7 +127,8 @@ pub record Promises (command : Option Command) (input out err : Change) (machine
   -- only these statuses come, and 2 just where the words are no form
   pub statuses : can_end command status ≡ true
   pub usage : (status ≡ 2) ↔ (command ≡ None)
-  -- the output got what the command writes, and nothing else; an input that is read was read whole; and what can be relied on
+  -- the output got what the command writes, and nothing else; an input that is read was read whole; and what can be
+  -- relied on
   pub done : status ≡ 0 → Writes (answer_for command bytes) out × IsReadWhole command input
   pub safe : status ≡ 0 → AreSafe (answer_for command bytes).machines
   -- the input is refused, as of one byte more than a limit that it passes

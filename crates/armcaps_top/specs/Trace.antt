@@ -1,5 +1,5 @@
--- The trace of a machine's steps: what each was answered, and the system registers that it changed. Its format is this project's
--- own. Steps stand newest first.
+-- The trace of a machine's steps: what each was answered, and the system registers that it changed. Its format is
+-- this project's own. Steps stand newest first.
 use Rattle.std.specs.Prelude.{ℕ, ◌+◌, ◌==◌, ◌||◌, ◌&&◌, if◌then◌else◌, List, [], ◌∷◌, ◌++◌, length, codes}
 use Rattle.std.specs.List.{flat_map}
 use Rattle.std.specs.Fmt.{decimal}
@@ -40,13 +40,15 @@ reply_text (Panicked cause) = codes "panicked " ++ cause_text cause
 
 -- the line of a step, as `step 5 local 1 parked cap 7 HAS_LSE_ATOMICS`
 abbrev pub step_line : ℕ → Event → Reply → List ℕ
-step_line number event reply = codes "step " ++ decimal number ++ codes " " ++ step_text event ++ codes " " ++ reply_text reply ++ 10 ∷ []
+step_line number event reply =
+    codes "step " ++ decimal number ++ codes " " ++ step_text event ++ codes " " ++ reply_text reply ++ 10 ∷ []
 
--- the cores admitted once the first of all steps are made: the boot core, and each core that all steps admit and that has come by
--- then
+-- the cores admitted once the first of all steps are made: the boot core, and each core that all steps admit and that
+-- has come by then
 abbrev pub admitted_by : Board → List Event → List Event → List Core
 admitted_by board steps past =
-    chosen (λ number. (number == board.boot) || (has_come number past && is_among_admitted board steps number)) board.cores
+    chosen (λ number. (number == board.boot) || (has_come number past && is_among_admitted board steps number))
+    board.cores
 
 -- the line of a register, where its word changes
 abbrev pub changed_line : SysReg → ℕ → ℕ → List ℕ
@@ -55,7 +57,8 @@ changed_line register before after = if before == after then [] else register_li
 -- the lines of the registers whose words change where these cores were admitted and those are
 abbrev pub changed_lines : FieldOverrides → List Core → List Core → List ℕ
 changed_lines overrides before after =
-    flat_map (λ register. changed_line register (system_word overrides before register) (system_word overrides after register)) tracked
+    flat_map (λ register. changed_line register (system_word overrides before register)
+    (system_word overrides after register)) tracked
 
 -- the lines of a step of a history, after these others
 unfoldable pub step_lines : Board → List Event → List Event → Event → List ℕ

@@ -41,7 +41,8 @@ pub fn begin(alloc: Global, machine: Machine) -> Result<(Boot, Vec<Event>, Names
 pub fn make_step(boot: &mut Boot, events: &[Event], index: usize) -> Reply
     requires inside { index < length events.now }
     requires at { IsAt index events.now boot.old.board boot.old }
-    ensures reply { result ≡ reply_of boot.old.board (steps_before index events.now) (slice_index_or events.now index (Event.Check 0)) }
+    ensures reply { result ≡ reply_of boot.old.board (steps_before index events.now)
+        (slice_index_or events.now index (Event.Check 0)) }
     ensures after { IsAfter boot.old.board (steps_before (index + 1) events.now) boot.new }
 {
     boot.facts_hold();

@@ -35,7 +35,8 @@ fn image_refusal(image: u32, given: usize) -> Option<Refusal>
 #[tactic(auto, unfolding(crate::specs::Document::document), using(crate::proofs::Images::image_whole))]
 pub fn machine_of(alloc: Global, bytes: &[u8]) -> Result<(Machine, usize), Ending>
     requires { length bytes.now ≤ (format_of bytes.now).input }
-    ensures document { IfOk result (λ read. document bytes.now ≡ Ok (record { reading = reading_of read.0; image = drop read.1 bytes.now })) }
+    ensures document { IfOk result (λ read. document bytes.now
+        ≡ Ok (record { reading = reading_of read.0; image = drop read.1 bytes.now })) }
     ensures sound { IfOk result (λ read. IsSound (reading_of read.0)) }
     ensures whole { IfOk result (λ read. read.1 + read.0.image ≡ length bytes.now) }
     ensures refused { IfErr result (IsRefusedSo bytes.now) }

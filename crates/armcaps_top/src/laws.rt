@@ -18,10 +18,11 @@ ghost use Rattle.armcaps_top.specs.Answer.{admitted_in};
 
 use armcaps_text::laws::{generated_machines_are_sound, readings_are_sound};
 
-/// Each document that is an input is sound, and so is each that `demo` works on. Of every sound document and register: each field
-/// of the system's word is its rule's value over the cores that were ever admitted, under the command line's override, each field
-/// of the word that users see is what they see of that value, and every other bit of both is 0. An override that is not taken,
-/// since merging it with the boot core's value gives another, leaves no mark: the field is as if there were none.
+/// Each document that is an input is sound, and so is each that `demo` works on. Of every sound document and
+/// register: each field of the system's word is its rule's value over the cores that were ever admitted, under the
+/// command line's override, each field of the word that users see is what they see of that value, and every other bit
+/// of both is 0. An override that is not taken, since merging it with the boot core's value gives another, leaves no
+/// mark: the field is as if there were none.
 #[tactic(auto, unfolding(crate::specs::Document::document))]
 pub fn document_fields_hold()
     ensures inputs { (input : List ℕ) (found : Document) → document input ≡ Ok found → IsSound found.reading }
@@ -35,7 +36,8 @@ pub fn document_fields_hold()
     ensures ignored { (found : Document) (reg : SysReg) (index : ℕ) (row : Row) (value : ℤ)
         → IsSound found.reading → slice_get (rows_of reg) index ≡ Some row
         → override_of found.reading.board.overrides reg index ≡ Some value
-        → merged row.rule row.safe value (field_in row (core_word (core_at found.reading.board.cores found.reading.board.boot) reg)) ≢ value
+        → merged row.rule row.safe value (field_in row (core_word
+        (core_at found.reading.board.cores found.reading.board.boot) reg)) ≢ value
         → system_field found.reading.board.overrides (admitted_in found) reg index row
         ≡ fold_of row.rule row.safe (field_values (admitted_in found) reg row) }
 {

@@ -31,7 +31,8 @@ fn answer<O: Sink>(
     requires cores { AreCoresGiven (Some command) }
     requires none { machines.old.items ≡ [] }
     requires within { length bytes.now ≤ (format_of bytes.now).input }
-    ensures { Ends command (answer_of command bytes.now) (change O.held O.faults out.old out.new) machines.new.items result }
+    ensures { Ends command (answer_of command bytes.now)
+        (change O.held O.faults out.old out.new) machines.new.items result }
 {
     match command {
         Command::Ask(query) => write_text(out, ask(alloc, query, bytes, machines)),
@@ -51,7 +52,8 @@ fn perform<S: Source, O: Sink>(
     requires cores { AreCoresGiven (Some command) }
     requires none { machines.old.items ≡ [] }
     ensures untouched { reads_input (Some command) ≡ false → input.new ≡ input.old }
-    ensures performs { Performs command (change S.left S.faults input.old input.new) (change O.held O.faults out.old out.new)
+    ensures performs { Performs command (change S.left S.faults input.old input.new)
+        (change O.held O.faults out.old out.new)
         machines.new.items result }
 {
     match read_for(alloc, command, input) {

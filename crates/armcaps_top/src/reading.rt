@@ -34,9 +34,9 @@ fn read_past<S: Source>(source: &mut S, bytes: &mut Vec<u8>, limit: usize) -> Re
     }
 }
 
-// All bytes of an input that has no more of them than its format allows, or else why it was not read. Of an input that
-// is refused for its length one byte more than the limit is read, and of none more than one byte past the greatest limit
-// of a format.
+// All bytes of an input that has no more of them than its format allows, or else why it was not read. Of an input
+// that is refused for its length one byte more than the limit is read, and of none more than one byte past the
+// greatest limit of a format.
 fn read_input<S: Source>(alloc: Global, source: &mut S) -> Result<Vec<u8>, Ending>
     ensures whole { IfOk result (λ bytes. GivesAll (S.left source.old) (S.left source.new) bytes.items) }
     ensures within { IfOk result (λ bytes. length bytes.items ≤ (format_of bytes.items).input) }

@@ -333,7 +333,8 @@ fn add_text(line: &mut ArrayString<256>, ending: Ending)
     }
 }
 
-/// Writes the line of an ending to the error stream, and nothing where the run is done. A fault there changes no status.
+/// Writes the line of an ending to the error stream, and nothing where the run is done. A fault there changes no
+/// status.
 pub fn tell<E: Sink>(err: &mut E, ending: Ending)
     ensures { Tells ending (E.held err.old) (E.held err.new) (E.faults err.old) (E.faults err.new) }
 {

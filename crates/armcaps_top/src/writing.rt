@@ -12,7 +12,8 @@ use armcaps_io::{Sink, write_whole};
 
 /// Writes a text that was made, or ends so.
 pub fn write_text<O: Sink>(out: &mut O, made: Result<String, Ending>) -> Ending
-    ensures { (command : Command) (answer : Answer) (machines : List World) → Comes answer machines (as_bytes string_bytes made)
+    ensures { (command : Command) (answer : Answer) (machines : List World) → Comes answer machines
+        (as_bytes string_bytes made)
         → Ends command answer (change O.held O.faults out.old out.new) machines result }
 {
     match made {

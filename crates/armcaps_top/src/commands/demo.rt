@@ -195,7 +195,8 @@ fn counts_of(
     requires accepted { first_refusal (features_of boot.now names.now) image.now layout ≡ None }
     requires apart { let entries = selected_of (features_of boot.now names.now) image.now layout in
         words_covered image.now entries ≡ words_of_sites entries }
-    ensures { IfOk result (λ counts. counts ≡ counts_of (findings_of boot.now) (features_of boot.now names.now) image.now layout) }
+    ensures { IfOk result (λ counts. counts ≡ counts_of (findings_of boot.now)
+        (features_of boot.now names.now) image.now layout) }
 {
     let plan = plan_of(alloc, boot, names, image, layout)?;
     let new = patched(alloc, &plan, image)?;

@@ -76,7 +76,8 @@ pub fn read_output(
 ) -> Result<String, Ending>
     requires sound { IsSound (reading_of machine) }
     requires none { machines.old.items ≡ [] }
-    ensures { Answers (Command.Ask (Query.Mrs core word)) (reading_of machine) machines.new.items (as_bytes string_bytes result) }
+    ensures { Answers (Command.Ask (Query.Mrs core word)) (reading_of machine) machines.new.items
+        (as_bytes string_bytes result) }
 {
     bring(alloc, machine, machines)?;
     match read_user(only(machines), core, word) {

@@ -36,8 +36,9 @@ pub fn plan_of(
     requires image { length image.now ≡ machine.image }
     ensures plan { IfOk result (λ plan. StandsFor plan (features_of_findings (findings_after (reading_of machine).board
         (history machine.steps.items)) machine.names) image.now machine.layout) }
-    ensures comes { Comes (of_document Command.Patch (Ok (record { reading = reading_of machine; image = image.now }))) machines.new.items
-        (as_bytes (λ plan. image_for (reading_of machine).board (history machine.steps.items) (reading_of machine) image.now) result) }
+    ensures comes { let reading = reading_of machine in
+        Comes (of_document Command.Patch (Ok (record { reading = reading; image = image.now }))) machines.new.items
+        (as_bytes (λ plan. image_for reading.board (history machine.steps.items) reading image.now) result) }
 {
     let layout = machine.layout;
     let names = bring(alloc, machine, machines)?;
@@ -62,7 +63,8 @@ fn bytes_from(bytes: &[u8], place: usize) -> &[u8]
 pub fn patch<O: Sink>(alloc: Global, bytes: &[u8], out: &mut O, machines: &mut Vec<Boot>) -> Ending
     requires within { length bytes.now ≤ (format_of bytes.now).input }
     requires none { machines.old.items ≡ [] }
-    ensures { Ends Command.Patch (answer_of Command.Patch bytes.now) (change O.held O.faults out.old out.new) machines.new.items result }
+    ensures { Ends Command.Patch (answer_of Command.Patch bytes.now)
+        (change O.held O.faults out.old out.new) machines.new.items result }
 {
     let (machine, place) = match machine_of(alloc, bytes) {
         Ok(read) => read,

@@ -22,7 +22,8 @@ pub fn report_output(
 ) -> Result<String, Ending>
     requires sound { IsSound (reading_of machine) }
     requires none { machines.old.items ≡ [] }
-    ensures { Answers (Command.Ask Query.Report) (reading_of machine) machines.new.items (as_bytes string_bytes result) }
+    ensures { Answers (Command.Ask Query.Report) (reading_of machine) machines.new.items
+        (as_bytes string_bytes result) }
 {
     bring(alloc, machine, machines)?;
     match report(alloc, only(machines)) {

@@ -89,7 +89,8 @@ fn push_change(
 // Adds the lines of the registers whose words differ between two systems.
 fn push_changes(text: &mut String, before: &System, after: &System) -> Result<(), AllocError>
     ensures { OnOk result ((overrides : FieldOverrides) (old new : List Core) → IsSystemOf overrides old before.now
-        → IsSystemOf overrides new after.now → string_bytes text.new ≡ string_bytes text.old ++ changed_lines overrides old new) }
+        → IsSystemOf overrides new after.now → string_bytes text.new ≡ string_bytes text.old
+        ++ changed_lines overrides old new) }
 {
     for register in SysReg::TRACKED {
         push_change(text, register, before.word(register), after.word(register))?;
@@ -110,7 +111,8 @@ fn trace_step(
     ensures after { IsAfter boot.old.board (steps_before (index + 1) events.now) boot.new }
     ensures halt { IfOk result (λ halt. halt ≡ halt_of boot.old.board (steps_before (index + 1) events.now)) }
     ensures lines { result ≡ Ok None → string_bytes text.new ≡ string_bytes text.old
-        ++ step_lines boot.old.board (reverse events.now) (steps_before index events.now) (slice_index_or events.now index (Event.Check 0)) }
+        ++ step_lines boot.old.board (reverse events.now) (steps_before index events.now)
+        (slice_index_or events.now index (Event.Check 0)) }
 {
     let before = *boot.system();
     let reply = make_step(boot, events, index);
@@ -133,7 +135,8 @@ fn trace_steps(
     requires { IsAt 0 events.now boot.old.board boot.old }
     ensures halt { IfOk result (λ halt. halt ≡ halt_of boot.old.board (reverse events.now)) }
     ensures machine { IsOk result → IsAfter boot.old.board (steps_made boot.old.board (reverse events.now)) boot.new }
-    ensures text { result ≡ Ok None → string_bytes text.new ≡ string_bytes text.old ++ trace_of boot.old.board (reverse events.now) }
+    ensures text { result ≡ Ok None → string_bytes text.new ≡ string_bytes text.old ++ trace_of boot.old.board
+        (reverse events.now) }
 {
     text.push_str("armcaps trace 1\n")?;
     for index in 0..events.len() {
