@@ -1,0 +1,6 @@
+pub mod Firsts
+pub mod Folds
+pub mod Baselines
+pub mod Machines
+pub mod Limiting
+mod Worked
