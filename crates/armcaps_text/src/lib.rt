@@ -20,6 +20,7 @@ pub use format::Format;
 pub use generator::generate;
 pub use kind::{TextKind, TextRefused};
 pub use machine::Machine;
+pub use number::number_up_to;
 
 #[cfg(test)]
 mod tests;

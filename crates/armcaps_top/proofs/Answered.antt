@@ -1,6 +1,6 @@
 -- A document, from its reading to what is written of it.
-use Rattle.std.proofs.Common.{◌≡◌, ◌≢◌, ℕ, ◌<◌, Bool, true, cond, List, [], ◌∷◌, ◌++◌, length, Option, Some, None, refl, sym, ap, subst, ◌∙◌}
-use Rattle.std.specs.Prelude.{Result, Ok, Err, IfOk, reverse}
+use Rattle.std.proofs.Common.{◌≡◌, ◌≢◌, ℕ, ◌<◌, true, List, [], ◌∷◌, ◌++◌, length, Option, Some, None, refl, sym, ap, subst, ◌∙◌}
+use Rattle.std.specs.Prelude.{Result, Err, reverse}
 use Rattle.std.specs.List.{flat_map}
 use Rattle.armcaps_board.specs.declared.event.Event.{Event}
 use Rattle.armcaps_boot.specs.declared.halt.Halt.{Halt}
@@ -16,7 +16,7 @@ use Rattle.armcaps_text.specs.Document.{Reading}
 use Rattle.armcaps_text.specs.Sound.{IsSound}
 use Rattle.armcaps_top.specs.Answer.{unless_stopped}
 use Rattle.armcaps_top.specs.Bringing.{IsAt, IsBegun}
-use Rattle.armcaps_top.specs.Inside.{IsHaltOf, IsHalted, IsNotUp, IsThrough, IsUp}
+use Rattle.armcaps_top.specs.Inside.{IsHaltOf, IsNotUp, IsThrough, IsUp}
 use Rattle.armcaps_top.specs.declared.ending.Ending.{Ending}
 use Rattle.armcaps_top.specs.declared.ending.Ending.TheVariants.{Done, ReadFault, WriteFault, Memory, NoOutput}
 use Rattle.armcaps_top.specs.declared.reason.Reason.{Reason}

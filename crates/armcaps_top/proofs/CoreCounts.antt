@@ -3,7 +3,8 @@ use Rattle.std.proofs.Common.{◌≡◌, ℕ, ◌≤◌, Bool, true, false, cond
 use Rattle.std.specs.Str.{bytes_eq}
 use Rattle.std.proofs.lemmas.Bool.Decides.{nat_tests}
 use Rattle.armcaps_lex.specs.Digits.{digits_number}
-use Rattle.armcaps_top.specs.Commands.{command_of, command_of_two, core_number, cores_number, demo_of, instruction_word, mrs_of, seed_number, within}
+use Rattle.armcaps_text.specs.Numbers.{number_up_to}
+use Rattle.armcaps_top.specs.Commands.{command_of, command_of_two, core_number, cores_number, demo_of, instruction_word, jump_of, mrs_of, seed_number, within}
 use Rattle.armcaps_top.specs.Inside.{AreCoresGiven}
 use Rattle.armcaps_top.specs.declared.commands.Command.{Command}
 use Rattle.armcaps_top.specs.declared.commands.Command.TheVariants.{Ask, Patch, Demo}
@@ -27,6 +28,11 @@ of_mrs (Some core) (Some word) seed cores is = cc
 of_mrs None word seed cores is = cc
 of_mrs (Some core) None seed cores is = cc
 
+of_jump : (table count : Option ℕ) (seed cores : ℕ) → jump_of table count ≡ Some (Demo seed cores) → ⊥
+of_jump (Some table) (Some count) seed cores is = cc
+of_jump None count seed cores is = cc
+of_jump (Some table) None seed cores is = cc
+
 of_one : (report patch trace : Bool) (seed cores : ℕ)
     → cond report (Some (Ask Report)) (cond patch (Some Patch) (cond trace (Some (Ask Trace)) None)) ≡ Some (Demo seed cores) → ⊥
 of_one true patch trace seed cores is = cc
@@ -34,11 +40,12 @@ of_one false true trace seed cores is = cc
 of_one false false true seed cores is = cc
 of_one false false false seed cores is = cc
 
-of_two : (mrs demo : Bool) (core word first second : Option ℕ) (seed cores : ℕ)
-    → cond mrs (mrs_of core word) (cond demo (demo_of first second) None) ≡ Some (Demo seed cores) → second ≡ Some cores
-of_two true demo core word first second seed cores is = absurd (of_mrs core word seed cores is)
-of_two false true core word first second seed cores is = of_demo first second seed cores is
-of_two false false core word first second seed cores is = absurd (let no : ⊥ = cc in no)
+of_two : (mrs demo jump : Bool) (core word first second table count : Option ℕ) (seed cores : ℕ)
+    → cond mrs (mrs_of core word) (cond demo (demo_of first second) (cond jump (jump_of table count) None)) ≡ Some (Demo seed cores) → second ≡ Some cores
+of_two true demo jump core word first second table count seed cores is = absurd (of_mrs core word seed cores is)
+of_two false true jump core word first second table count seed cores is = of_demo first second seed cores is
+of_two false false true core word first second table count seed cores is = absurd (of_jump table count seed cores is)
+of_two false false false core word first second table count seed cores is = absurd (let no : ⊥ = cc in no)
 
 cores_are : (words : List (List ℕ)) (seed cores : ℕ) → command_of words ≡ Some (Demo seed cores) → (1 ≤ cores) × (cores ≤ 64)
 unfolding command_of command_of_two
@@ -48,7 +55,8 @@ cores_are (name ∷ []) seed cores is =
 cores_are (name ∷ first ∷ []) seed cores is = absurd (let no : ⊥ = cc in no)
 cores_are (name ∷ first ∷ second ∷ []) seed cores is =
     bounded (nat_lt 2 (length second)) (digits_number 10 second) 1 64 cores
-    (of_two (bytes_eq name (codes "mrs")) (bytes_eq name (codes "demo")) (core_number first) (instruction_word second) (seed_number first) (cores_number second) seed cores is)
+    (of_two (bytes_eq name (codes "mrs")) (bytes_eq name (codes "demo")) (bytes_eq name (codes "jump")) (core_number first) (instruction_word second)
+    (seed_number first) (cores_number second) (number_up_to 536870912 first) (number_up_to 1048576 second) seed cores is)
 cores_are (name ∷ first ∷ second ∷ third ∷ more) seed cores is = absurd (let no : ⊥ = cc in no)
 
 given : (command : Option Command) → ((seed cores : ℕ) → command ≡ Some (Demo seed cores) → (1 ≤ cores) × (cores ≤ 64)) → AreCoresGiven command

@@ -1,12 +1,15 @@
 -- Which reasons the answers of commands can have.
-use Rattle.std.proofs.Common.{◌≡◌, ◌⊎◌, inl, inr, ℕ, ◌≤◌, true, List, [], ◌∷◌, Option, Some, None, refl, sym, ap, subst, ◌∙◌}
-use Rattle.std.specs.Prelude.{Result, Ok, Err, is_some}
+use Rattle.std.proofs.Common.{◌≡◌, ◌⊎◌, inl, inr, ℕ, ◌+◌, ◌*◌, ◌≤◌, Bool, true, false, cond, nat_lt, length, List, [], ◌∷◌, Option, Some, None, refl, ap, subst}
+use Rattle.std.specs.Prelude.{Result, Ok, Err}
 use Rattle.armcaps_alt.specs.Entries.{Features}
 use Rattle.armcaps_alt.specs.Patched.{patched_image}
 use Rattle.armcaps_alt.specs.Refusals as alternatives
 use Rattle.armcaps_alt.specs.Refusals.{first_refusal}
 use Rattle.armcaps_boot.specs.Findings.{Findings, findings_after}
 use Rattle.armcaps_mrs.specs.Reading.{user_read}
+use Rattle.armcaps_jump.specs.Jumped.{jump_image}
+use Rattle.armcaps_jump.specs.Refusals as labels
+use Rattle.armcaps_jump.specs.Refusals.{first_refusal as first_label_refusal}
 use Rattle.armcaps_patch.specs.Features.{features_of_findings}
 use Rattle.armcaps_boot.specs.declared.halt.Halt.{Halt}
 use Rattle.armcaps_text.proofs.GeneratedReading.{generated_up}
@@ -16,15 +19,17 @@ use Rattle.armcaps_top.specs.Demo.{generated_document}
 use Rattle.armcaps_top.specs.Document.{Document, document}
 use Rattle.armcaps_top.specs.Ending.{reason_status}
 use Rattle.armcaps_top.specs.Inside.{AreCoresGiven}
+use Rattle.armcaps_top.specs.Jump.{labelled_after, unless_label_refused}
 use Rattle.armcaps_top.specs.Mrs.{read_output}
-use Rattle.armcaps_top.specs.Patch.{unless_entry_refused}
+use Rattle.armcaps_top.specs.Patch.{patch_output, unless_entry_refused}
 use Rattle.armcaps_top.specs.Run.{can_end, is_some_stopped, reads_input}
 use Rattle.armcaps_top.specs.declared.commands.Command.{Command}
-use Rattle.armcaps_top.specs.declared.commands.Command.TheVariants.{Ask, Patch, Demo}
+use Rattle.armcaps_top.specs.declared.commands.Command.TheVariants.{Ask, Patch, Jump, Demo}
 use Rattle.armcaps_top.specs.declared.commands.Query.TheVariants.{Report, Mrs, Trace}
+use Rattle.armcaps_top.specs.declared.commands.jump.LabelsRefused.TheVariants.{TableOutside, Entry}
 use Rattle.armcaps_top.specs.declared.commands.mrs.ReadRefused.{ReadRefused}
 use Rattle.armcaps_top.specs.declared.reason.Reason.{Reason}
-use Rattle.armcaps_top.specs.declared.reason.Reason.TheVariants.{Usage, Refused, Panicked, NotPatched, NotRead}
+use Rattle.armcaps_top.specs.declared.reason.Reason.TheVariants.{Usage, Refused, Panicked, NotPatched, NotRead, NotJumped}
 use Rattle.armcaps_top.specs.declared.refusal.Refusal.{Refusal}
 
 -- what the reason says of the answer that has it
@@ -41,6 +46,7 @@ IsOwn command (Refused refusal) = ⊥
 IsOwn command (Panicked halt) = ⊥
 IsOwn command (NotPatched entry kind) = can_end command 8 ≡ true
 IsOwn command (NotRead refused) = can_end command 9 ≡ true
+IsOwn command (NotJumped refused) = can_end command 11 ≡ true
 
 own_status : (command : Option Command) (reason : Reason) → IsOwn command reason → can_end command (reason_status reason) ≡ true
 own_status command Usage own = absurd own
@@ -48,6 +54,7 @@ own_status command (Refused refusal) own = absurd own
 own_status command (Panicked halt) own = absurd own
 own_status command (NotPatched entry kind) own = own
 own_status command (NotRead refused) own = own
+own_status command (NotJumped refused) own = own
 
 some_stopped : (found : Document) (halt : Halt) → halt_in found ≡ Some halt → is_some_stopped (found ∷ []) ≡ true
 some_stopped found halt is = rw is refl
@@ -94,10 +101,25 @@ own_read core word (Ok output) reason is = absurd (let no : ⊥ = cc in no)
 own_read core word (Err refused) reason is =
     let same : NotRead refused ≡ reason = cc in subst (λ (r : Reason). IsOwn (Some (Ask (Mrs core word))) r) same refl
 
-own_entry : (refusal : Option alternatives.Refusal) (image : List ℕ) (reason : Reason) → unless_entry_refused refusal image ≡ Err reason → IsOwn (Some Patch) reason
-own_entry None image reason is = absurd (let no : ⊥ = cc in no)
-own_entry (Some refusal) image reason is =
-    let same : NotPatched refusal.entry refusal.kind ≡ reason = cc in subst (λ (r : Reason). IsOwn (Some Patch) r) same refl
+own_entry : (command : Command) (refusal : Option alternatives.Refusal) (image : List ℕ) (reason : Reason) → can_end (Some command) 8 ≡ true
+    → unless_entry_refused refusal image ≡ Err reason → IsOwn (Some command) reason
+own_entry command None image reason eight is = absurd (let no : ⊥ = cc in no)
+own_entry command (Some refusal) image reason eight is =
+    let same : NotPatched refusal.entry refusal.kind ≡ reason = cc in subst (λ (r : Reason). IsOwn (Some command) r) same eight
+
+own_label : (table count : ℕ) (outside : Bool) (refusal : Option labels.Refusal) (image : List ℕ) (reason : Reason)
+    → cond outside (Err (NotJumped TableOutside)) (unless_label_refused refusal image) ≡ Err reason → IsOwn (Some (Jump table count)) reason
+own_label table count true refusal image reason is =
+    let same : NotJumped TableOutside ≡ reason = cc in subst (λ (r : Reason). IsOwn (Some (Jump table count)) r) same refl
+own_label table count false None image reason is = absurd (let no : ⊥ = cc in no)
+own_label table count false (Some refusal) image reason is =
+    let same : NotJumped (Entry refusal.entry refusal.kind) ≡ reason = cc in subst (λ (r : Reason). IsOwn (Some (Jump table count)) r) same refl
+
+own_labels : (table count : ℕ) (patched : Result (List ℕ) Reason) (reason : Reason) → ((r : Reason) → patched ≡ Err r → IsOwn (Some (Jump table count)) r)
+    → labelled_after table count patched ≡ Err reason → IsOwn (Some (Jump table count)) reason
+own_labels table count (Ok image) reason own is =
+    own_label table count (nat_lt (length image) (table + 16 * count)) (first_label_refusal image table count) (jump_image image table count) reason is
+own_labels table count (Err refused) reason own is = own reason is
 
 abbrev findings_of_document : Document → Findings
 findings_of_document found = findings_after found.reading.board (steps_of found)
@@ -120,8 +142,12 @@ fits None bytes given = record {
 fits (Some (Ask Report)) bytes given = fits_input (Ask Report) (document bytes) refl refl (λ found reason same. absurd (let no : ⊥ = cc in no))
 fits (Some (Ask Trace)) bytes given = fits_input (Ask Trace) (document bytes) refl refl (λ found reason same. absurd (let no : ⊥ = cc in no))
 fits (Some (Ask (Mrs core word))) bytes given = fits_input (Ask (Mrs core word)) (document bytes) refl refl (λ found. own_read core word (read_output core word (user_read (findings_of_document found) core word)))
-fits (Some Patch) bytes given = fits_input Patch (document bytes) refl refl (λ found. own_entry (first_refusal (features_of_document found) found.image found.reading.layout)
-    (patched_image (features_of_document found) found.image found.reading.layout))
+fits (Some Patch) bytes given = fits_input Patch (document bytes) refl refl (λ found reason. own_entry Patch (first_refusal (features_of_document found) found.image found.reading.layout)
+    (patched_image (features_of_document found) found.image found.reading.layout) reason refl)
+fits (Some (Jump table count)) bytes given = fits_input (Jump table count) (document bytes) refl refl (λ found reason. own_labels table count
+    (patch_output found.reading.board (steps_of found) found.reading found.image) reason
+    (λ other. own_entry (Jump table count) (first_refusal (features_of_document found) found.image found.reading.layout)
+    (patched_image (features_of_document found) found.image found.reading.layout) other refl))
 fits (Some (Demo seed cores)) bytes given =
     fits_found (Demo seed cores) (generated_document seed cores) (inr (demo_goes seed cores given.0)) (λ reason same. absurd (let no : ⊥ = cc in no))
 
@@ -131,6 +157,7 @@ stream_ends (Ask Report) = (refl, refl, refl)
 stream_ends (Ask Trace) = (refl, refl, refl)
 stream_ends (Ask (Mrs core word)) = (refl, refl, refl)
 stream_ends Patch = (refl, refl, refl)
+stream_ends (Jump table count) = (refl, refl, refl)
 stream_ends (Demo seed cores) = (refl, refl, refl)
 
 pub read_ends : (command : Command) → reads_input (Some command) ≡ true → can_end (Some command) 4 ≡ true
@@ -138,4 +165,5 @@ read_ends (Ask Report) reads = refl
 read_ends (Ask Trace) reads = refl
 read_ends (Ask (Mrs core word)) reads = refl
 read_ends Patch reads = refl
+read_ends (Jump table count) reads = refl
 read_ends (Demo seed cores) reads = absurd (let no : ⊥ = cc in no)

@@ -1,6 +1,6 @@
 -- What querys write of a machine whose steps are all made.
-use Rattle.std.proofs.Common.{◌≡◌, ℕ, ◌<◌, ◌≤◌, ◌⊎◌, inl, inr, Bool, true, false, not, cond, List, length, Option, Some, None, refl, sym, ap, subst, ◌∙◌, arith}
-use Rattle.std.specs.Prelude.{Ok, Err, ◌==◌}
+use Rattle.std.proofs.Common.{◌≡◌, ℕ, ◌<◌, ◌≤◌, ◌⊎◌, inl, inr, Bool, true, false, not, cond, List, length, Option, Some, None, refl, ap, subst, ◌∙◌, arith}
+use Rattle.std.specs.Prelude.{◌==◌}
 use Rattle.std.proofs.lemmas.List.{get_or_past}
 use Rattle.std.proofs.lemmas.Bool.{cases_lt}
 use Rattle.armcaps_boot.specs.declared.cause.Cause.{Cause}
@@ -18,26 +18,11 @@ use Rattle.armcaps_boot.specs.Causes.{stops_machine}
 use Rattle.armcaps_boot.specs.Facts.{Facts}
 use Rattle.armcaps_boot.specs.Findings.{findings_after, findings_of}
 use Rattle.armcaps_boot.specs.World.{World, state_at}
-use Rattle.armcaps_alt.specs.declared.patch_kind.PatchKind.{PatchKind}
-use Rattle.armcaps_alt.specs.declared.table_place.Layout.{Layout}
-use Rattle.armcaps_alt.specs.Names.{NameLists}
-use Rattle.armcaps_alt.specs.Refusals.{first_refusal}
-use Rattle.armcaps_alt.specs.Patched.{patched_image}
-use Rattle.armcaps_patch.specs.Kept.{Planned, StandsFor}
-use Rattle.armcaps_patch.specs.Features.{features_of, features_of_findings}
-use Rattle.armcaps_text.specs.Document.{Reading}
-use Rattle.armcaps_top.specs.Patch.{patch_output}
 use Rattle.armcaps_board.proofs.Bools.{and_left, and_right, not_true}
 use Rattle.armcaps_board.proofs.Turns.{none_in_flight}
 use Rattle.armcaps_boot.proofs.Holding.{state_of-boot, state_of-other}
 use Rattle.armcaps_boot.proofs.ShorterHistories.{state_at-after}
-use Rattle.armcaps_mrs.specs.declared.read.UserRead.{UserRead}
-use Rattle.armcaps_mrs.specs.declared.refused.UserRefused.{UserRefused}
-use Rattle.armcaps_mrs.specs.Reading.{user_read}
-use Rattle.armcaps_report.specs.Report.{report_of}
 use Rattle.armcaps_report.specs.Settled.{AreSettled, is_settled}
-use Rattle.armcaps_top.specs.Mrs.{read_line, read_refused_of}
-use Rattle.armcaps_top.specs.declared.commands.Query.TheVariants.{Report, Mrs}
 use Rattle.armcaps_top.proofs.Steps.{made_whole}
 
 -- where no step stopped the machine, all are made

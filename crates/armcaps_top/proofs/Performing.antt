@@ -1,26 +1,25 @@
 -- From what is made of an answer to what a command does.
-use Rattle.std.proofs.Common.{◌≡◌, ◌≢◌, ℕ, ◌+◌, ◌-◌, ◌≤◌, Bool, true, false, cond, nat_lt, List, [], ◌∷◌, ◌++◌, length, drop, Option, Some, None, refl, sym, ap, subst, ◌∙◌, arith}
+use Rattle.std.proofs.Common.{◌≡◌, ℕ, ◌+◌, ◌-◌, ◌≤◌, Bool, true, false, cond, nat_lt, List, [], ◌∷◌, ◌++◌, length, drop, Option, Some, None, refl, sym, ap, subst, ◌∙◌, arith}
 use Rattle.std.specs.Prelude.{Result, Ok, Err, IfSome, unwrap_or}
-use Rattle.std.specs.Result.{IsOkAnd}
 use Rattle.std.proofs.lemmas.Bool.Decides.{nat_tests}
 use Rattle.armcaps_boot.specs.World.{World}
 use Rattle.armcaps_io.specs.Causes.{Rose}
-use Rattle.armcaps_io.specs.Streams.{Appends, AppendsPrefix, GivesAll, GivesAtMost, GivesCount, Keeps}
+use Rattle.armcaps_io.specs.Streams.{Appends, AppendsPrefix, GivesAtMost, GivesCount, Keeps}
 use Rattle.armcaps_text.specs.Document.{Outcome, Reads, Refuses, Reading, outcome}
 use Rattle.armcaps_text.specs.Formats.{format_of}
-use Rattle.armcaps_top.specs.Answer.{Answer, answer_of, halt_in, of_document, output_in, refused, unless_stopped}
+use Rattle.armcaps_top.specs.Answer.{Answer, answer_of, of_document, output_in, refused, unless_stopped}
 use Rattle.armcaps_top.specs.Demo.{generated_document}
-use Rattle.armcaps_top.specs.Document.{Document, document, document_after, image_refusal, unless_refused, with_image}
-use Rattle.armcaps_top.specs.Inside.{AreCoresGiven, Comes, Ends, IsHalted, IsInstead, IsNotRead, IsNotUp, IsRead, IsRefusedSo, IsThrough, IsUp, Performs}
-use Rattle.armcaps_top.specs.Run.{AreMachinesOf, Change, EndsSo, IsReadWhole, Writes, most_read, reads_input}
+use Rattle.armcaps_top.specs.Document.{Document, document, document_after, unless_refused}
+use Rattle.armcaps_top.specs.Inside.{AreCoresGiven, Comes, Ends, IsNotRead, IsNotUp, IsRead, IsRefusedSo, IsThrough, IsUp, Performs}
+use Rattle.armcaps_top.specs.Run.{Change, EndsSo, most_read, reads_input}
 use Rattle.armcaps_top.specs.declared.commands.Command.{Command}
-use Rattle.armcaps_top.specs.declared.commands.Command.TheVariants.{Ask, Patch, Demo}
+use Rattle.armcaps_top.specs.declared.commands.Command.TheVariants.{Ask, Patch, Jump, Demo}
 use Rattle.armcaps_top.specs.declared.ending.Ending.{Ending}
 use Rattle.armcaps_top.specs.declared.ending.Ending.TheVariants.{Done, ReadFault, WriteFault, Memory, NoOutput}
 use Rattle.armcaps_top.specs.declared.reason.Reason.{Reason}
 use Rattle.armcaps_top.specs.declared.reason.Reason.TheVariants.{Refused}
 use Rattle.armcaps_top.specs.declared.refusal.Refusal.{Refusal}
-use Rattle.armcaps_top.specs.declared.refusal.Refusal.TheVariants.{Line, TooLong, ImageShort, Trailing}
+use Rattle.armcaps_top.specs.declared.refusal.Refusal.TheVariants.{TooLong, ImageShort, Trailing}
 use Rattle.armcaps_top.proofs.Fitting.{fits}
 
 -- nothing comes of an answer for want of memory
@@ -179,6 +178,7 @@ of_refused command (Err other) refusal is =
 answer_short : (command : Command) (bytes : List ℕ) (limit : ℕ) → length bytes ≤ (format_of bytes).input → answer_of command bytes ≡ refused (TooLong limit) → ⊥
 answer_short (Ask query) bytes limit within is = document_short bytes limit within (of_refused (Ask query) (document bytes) (TooLong limit) is)
 answer_short Patch bytes limit within is = document_short bytes limit within (of_refused Patch (document bytes) (TooLong limit) is)
+answer_short (Jump table count) bytes limit within is = document_short bytes limit within (of_refused (Jump table count) (document bytes) (TooLong limit) is)
 answer_short (Demo seed cores) bytes limit within is =
     let no = of_refused (Demo seed cores) (Ok (generated_document seed cores)) (TooLong limit) is in absurd (let never : ⊥ = cc in never)
 

@@ -9,13 +9,13 @@ use Rattle.armcaps_io.specs.Streams.{Appends, GivesAtMost, Keeps}
 use Rattle.armcaps_top.specs.Answer.{Answer, answer_for, answer_of}
 use Rattle.armcaps_top.specs.Ending.{output_status, reason_status, status_of}
 use Rattle.armcaps_top.specs.Inside.{AreCoresGiven, Performs}
-use Rattle.armcaps_top.specs.Run.{AreMachinesOf, Change, EndsSo, IsRefused, Promises, ReadFails, can_end, is_some_stopped, reads_input}
+use Rattle.armcaps_top.specs.Run.{AreMachinesOf, Change, EndsSo, Promises, ReadFails, can_end}
 use Rattle.armcaps_top.specs.Telling.{Tells}
 use Rattle.armcaps_top.specs.declared.commands.Command.{Command}
 use Rattle.armcaps_top.specs.declared.ending.Ending.{Ending}
 use Rattle.armcaps_top.specs.declared.ending.Ending.TheVariants.{Done, ReadFault, WriteFault, Memory, NoOutput}
 use Rattle.armcaps_top.specs.declared.reason.Reason.{Reason}
-use Rattle.armcaps_top.specs.declared.reason.Reason.TheVariants.{Usage, Refused, Panicked, NotPatched, NotRead}
+use Rattle.armcaps_top.specs.declared.reason.Reason.TheVariants.{Usage, Refused, Panicked, NotPatched, NotRead, NotJumped}
 use Rattle.armcaps_top.specs.declared.refusal.Refusal.{Refusal}
 use Rattle.armcaps_top.proofs.Fitting.{Fits, fits, read_ends, stream_ends}
 use Rattle.armcaps_top.proofs.Performing.{keeps}
@@ -104,6 +104,7 @@ no_machine command answer input out machines (NoOutput (Refused refusal)) so fit
 no_machine command answer input out machines (NoOutput (Panicked halt)) so fit left none usage low high = absurd (omega (arith, high))
 no_machine command answer input out machines (NoOutput (NotPatched entry kind)) so fit left none usage low high = absurd (omega (arith, high))
 no_machine command answer input out machines (NoOutput (NotRead refused)) so fit left none usage low high = absurd (omega (arith, high))
+no_machine command answer input out machines (NoOutput (NotJumped refused)) so fit left none usage low high = absurd (omega (arith, high))
 
 status_fits : (command : Command) (answer : Answer) (input out : Change) (ending : Ending) → EndsSo (Some command) answer input out ending → Fits (Some command) answer
     → can_end (Some command) (status_of ending) ≡ true

@@ -3,7 +3,6 @@ use Rattle.std.proofs.Common.{◌≡◌, ℕ, ◌+◌, ◌<◌, ◌≤◌, true,
 use Rattle.std.specs.Prelude.{◌==◌, reverse}
 use Rattle.std.proofs.lemmas.List.{length-reverse}
 use Rattle.armcaps_tables.specs.Core.{Core}
-use Rattle.armcaps_tables.specs.Overriding.{FieldOverrides}
 use Rattle.armcaps_sanit.specs.System.{IsSystemOf}
 use Rattle.armcaps_boot.specs.declared.core_state.CoreState.{CoreState}
 use Rattle.armcaps_board.specs.declared.event.Event.{Event}

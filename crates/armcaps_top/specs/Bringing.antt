@@ -1,5 +1,5 @@
 -- A machine in the middle of its steps.
-use Rattle.std.specs.Prelude.{◌≡◌, ℕ, true, List, length, take, reverse, None}
+use Rattle.std.specs.Prelude.{◌≡◌, ℕ, true, List, take, reverse, None}
 use Rattle.armcaps_board.specs.declared.event.Event.{Event}
 use Rattle.armcaps_board.specs.Board.{Board}
 use Rattle.armcaps_board.specs.Order.{in_order, is_complete}

@@ -3,8 +3,9 @@ use Rattle.std.specs.Prelude.{ℕ, ◌-◌, ◌^◌, ◌&&◌, ◌||◌, nat_eq,
 use Rattle.std.specs.List.{starts_with}
 use Rattle.std.specs.Str.{bytes_eq}
 use Rattle.armcaps_lex.specs.Digits.{digits_number}
+use Rattle.armcaps_text.specs.Numbers.{number_up_to}
 use Rattle.armcaps_top.specs.declared.commands.Command.{Command}
-use Rattle.armcaps_top.specs.declared.commands.Command.TheVariants.{Ask, Patch, Demo}
+use Rattle.armcaps_top.specs.declared.commands.Command.TheVariants.{Ask, Patch, Jump, Demo}
 use Rattle.armcaps_top.specs.declared.commands.Query.TheVariants.{Report, Mrs, Trace}
 
 -- the number of a core: 1 to 9 decimal digits
@@ -46,6 +47,13 @@ demo_of (Some seed) (Some cores) = Some (Demo seed cores)
 demo_of None cores = None
 demo_of (Some seed) None = None
 
+-- `jump` of this table and so many entries, where both are written as they should be: numbers as in a machine text, at
+-- most 536,870,912 and 1,048,576
+abbrev pub jump_of : Option ℕ → Option ℕ → Option Command
+jump_of (Some table) (Some count) = Some (Jump table count)
+jump_of None count = None
+jump_of (Some table) None = None
+
 -- the command of one word
 abbrev pub command_named : List ℕ → Option Command
 command_named name =
@@ -57,9 +65,12 @@ command_named name =
 unfoldable pub command_of_two : List ℕ → List ℕ → List ℕ → Option Command
 command_of_two name first second =
     if bytes_eq name (codes "mrs") then mrs_of (core_number first) (instruction_word second)
-    else if bytes_eq name (codes "demo") then demo_of (seed_number first) (cores_number second) else None
+    else if bytes_eq name (codes "demo") then demo_of (seed_number first) (cores_number second)
+    else if bytes_eq name (codes "jump") then jump_of (number_up_to 536870912 first) (number_up_to 1048576 second)
+    else None
 
--- the command that words are a form of: `report`, `patch`, `mrs CORE WORD`, `demo SEED CORES` or `trace`
+-- the command that words are a form of: `report`, `patch`, `mrs CORE WORD`, `demo SEED CORES`, `trace` or
+-- `jump OFFSET COUNT`
 unfoldable pub command_of : List (List ℕ) → Option Command
 command_of [] = None
 command_of (name ∷ []) = command_named name

@@ -1,18 +1,21 @@
 //! The commands, and the words that name them.
 
 ghost use Rattle.std.specs.Prelude.{◌≡◌, map, string_bytes};
-ghost use Rattle.armcaps_top.specs.Commands.{bounded_number, command_named, command_of, command_of_two, core_number, demo_of, instruction_word, mrs_of};
+ghost use Rattle.armcaps_text.specs.Numbers.{number_up_to};
+ghost use Rattle.armcaps_top.specs.Commands.{bounded_number, command_named, command_of, command_of_two, core_number, demo_of, instruction_word, jump_of, mrs_of};
 ghost use Rattle.armcaps_top.specs.Commands.{cores_number, seed_number};
 ghost use Rattle.armcaps_top.specs.Inside.{AreCoresGiven};
 
 pub mod ask;
 pub mod demo;
+pub mod jump;
 pub mod mrs;
 pub mod patch;
 pub mod report;
 pub mod trace;
 
 use armcaps_lex::{decimal, hexadecimal};
+use armcaps_text::number_up_to;
 
 /// What is asked of a machine alone.
 #[derive(Clone, Copy)]
@@ -32,6 +35,9 @@ pub enum Command {
     Ask(Query),
     /// The image, patched for the machine.
     Patch,
+    /// The image, patched for the machine, with the jump labels of so many entries applied, whose table begins at a
+    /// place of the image.
+    Jump { table: u32, count: u32 },
     /// What comes of a machine with so many cores and of its image, both made from a seed.
     Demo { seed: u32, cores: u32 },
 }
@@ -75,6 +81,8 @@ fn command_of_two(name: &str, first: &str, second: &str) -> Option<Command>
         mrs_of(first.as_bytes(), second.as_bytes())
     } else if name == "demo" {
         demo_of(first.as_bytes(), second.as_bytes())
+    } else if name == "jump" {
+        jump_of(first.as_bytes(), second.as_bytes())
     } else {
         None
     }
@@ -96,6 +104,15 @@ fn demo_of(first: &[u8], second: &[u8]) -> Option<Command>
     let seed = bounded_number(10, 0, u32::MAX, first)?;
     let cores = bounded_number(2, 1, 64, second)?;
     Some(Command::Demo { seed, cores })
+}
+
+// `jump` of a table and a number of entries.
+fn jump_of(first: &[u8], second: &[u8]) -> Option<Command>
+    ensures { result ≡ jump_of (number_up_to 536870912 first.now) (number_up_to 1048576 second.now) }
+{
+    let table = number_up_to(536_870_912, first)?;
+    let count = number_up_to(1_048_576, second)?;
+    Some(Command::Jump { table, count })
 }
 
 // A number of at most so many decimal digits, within these bounds.

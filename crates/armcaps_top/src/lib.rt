@@ -5,6 +5,7 @@ mod bringing;
 mod commands;
 mod document;
 mod ending;
+mod kept_bytes;
 pub mod laws;
 mod program;
 mod reading;

@@ -1,5 +1,6 @@
 //! Why a command writes nothing.
 
+use crate::commands::jump::LabelsRefused;
 use crate::commands::mrs::ReadRefused;
 use crate::refusal::Refusal;
 use armcaps_alt::PatchKind;
@@ -18,6 +19,8 @@ pub enum Reason {
     NotPatched { entry: u32, kind: PatchKind },
     /// A program reads nothing there.
     NotRead(ReadRefused),
+    /// No jump labels are applied to the patched image.
+    NotJumped(LabelsRefused),
 }
 
 impl Reason {
@@ -34,6 +37,7 @@ impl Reason {
             Reason::Panicked(_) => 7,
             Reason::NotPatched { .. } => 8,
             Reason::NotRead(_) => 9,
+            Reason::NotJumped(_) => 11,
         }
     }
 }

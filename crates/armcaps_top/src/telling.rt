@@ -12,13 +12,16 @@ ghost use Rattle.armcaps_report.specs.Texts.{capability_text, cause_text};
 ghost use Rattle.armcaps_text.specs.declared.kind.TextKind.{TextKind};
 ghost use Rattle.armcaps_top.specs.Document.{refused_text};
 ghost use Rattle.armcaps_top.specs.Ending.{ending_text, halt_text, reason_text};
+ghost use Rattle.armcaps_top.specs.Jump.{label_kind_word, labels_refused_text};
 ghost use Rattle.armcaps_top.specs.Mrs.{eight_digits, read_refused_text};
 ghost use Rattle.armcaps_alt.specs.declared.patch_kind.PatchKind.{PatchKind};
 ghost use Rattle.armcaps_top.specs.Patch.{entry_text};
 ghost use Rattle.armcaps_top.specs.Telling.{Tells};
+ghost use Rattle.armcaps_top.specs.declared.commands.jump.LabelsRefused.TheVariants as labels_refused;
 ghost use Rattle.armcaps_top.specs.declared.commands.mrs.ReadRefused.TheVariants as read_refused;
 ghost use Rattle.armcaps_top.specs.declared.refusal.Refusal.TheVariants as Refusal;
 
+use crate::commands::jump::LabelsRefused;
 use crate::commands::mrs::ReadRefused;
 use crate::ending::Ending;
 use crate::reason::Reason;
@@ -299,6 +302,58 @@ fn add_not_patched(line: &mut ArrayString<256>, entry: u32, kind: PatchKind)
     add_entry(line, entry, kind);
 }
 
+// The word of a kind of refused jump label.
+fn label_kind_word(kind: u8) -> &'static str
+    ensures word { result.now ≡ label_kind_word kind }
+    ensures short { length result.now ≤ 6 }
+{
+    if kind == 1 {
+        "code"
+    } else if kind == 2 {
+        "key"
+    } else {
+        "branch"
+    }
+}
+
+// Adds which entry of a table of jump labels is refused, and why.
+#[tactic(auto, unfolding(crate::specs::Jump::labels_refused_text))]
+fn add_label(line: &mut ArrayString<256>, entry: u32, kind: u8)
+    requires { array_string_len line.old + 123 ≤ 256 }
+    ensures text { line.new.bytes ≡ line.old.bytes ++ labels_refused_text (labels_refused.Entry entry kind) }
+    ensures room { array_string_len line.new ≤ array_string_len line.old + 123 }
+{
+    line.push_str("entry ");
+    add_number(line, u64::from(entry));
+    line.push_str(": kind ");
+    add_number(line, u64::from(kind));
+    line.push_str(" ");
+    line.push_str(label_kind_word(kind));
+}
+
+// Adds why no jump labels are applied.
+#[tactic(auto, unfolding(crate::specs::Jump::labels_refused_text))]
+fn add_labels_refused(line: &mut ArrayString<256>, refused: LabelsRefused)
+    requires { array_string_len line.old + 123 ≤ 256 }
+    ensures text { line.new.bytes ≡ line.old.bytes ++ labels_refused_text refused }
+    ensures room { array_string_len line.new ≤ array_string_len line.old + 123 }
+{
+    match refused {
+        LabelsRefused::TableOutside => line.push_str("table outside"),
+        LabelsRefused::Entry { entry, kind } => add_label(line, entry, kind),
+    }
+}
+
+// Adds why there is no image with jump labels.
+fn add_not_jumped(line: &mut ArrayString<256>, refused: LabelsRefused)
+    requires { array_string_len line.old + 130 ≤ 256 }
+    ensures text { line.new.bytes ≡ line.old.bytes ++ (codes "jump: " ++ labels_refused_text refused) }
+    ensures room { array_string_len line.new ≤ array_string_len line.old + 130 }
+{
+    line.push_str("jump: ");
+    add_labels_refused(line, refused);
+}
+
 // Adds a reason.
 #[tactic(auto, unfolding(crate::specs::Ending::reason_text))]
 fn add_reason(line: &mut ArrayString<256>, reason: Reason)
@@ -308,12 +363,13 @@ fn add_reason(line: &mut ArrayString<256>, reason: Reason)
 {
     match reason {
         Reason::Usage => line.push_str(
-            "usage: armcaps report | patch | mrs CORE WORD | demo SEED CORES | trace",
+            "usage: armcaps report | patch | mrs CORE WORD | demo SEED CORES | trace | jump OFFSET COUNT",
         ),
         Reason::Refused(refusal) => add_refusal(line, refusal),
         Reason::Panicked(halt) => add_panic(line, halt),
         Reason::NotPatched { entry, kind } => add_not_patched(line, entry, kind),
         Reason::NotRead(unread) => add_not_read(line, unread),
+        Reason::NotJumped(refused) => add_not_jumped(line, refused),
     }
 }
 

@@ -1,3 +1,4 @@
+mod jumping;
 mod patching;
 mod rows;
 
@@ -53,7 +54,7 @@ end
 ";
 
 const USAGE: &str =
-    "armcaps: usage: armcaps report | patch | mrs CORE WORD | demo SEED CORES | trace\n";
+    "armcaps: usage: armcaps report | patch | mrs CORE WORD | demo SEED CORES | trace | jump OFFSET COUNT\n";
 
 /// What a run answers, what its streams hold then, and the machines that it leaves.
 #[derive(Drop)]

@@ -1,6 +1,6 @@
 //! `demo SEED CORES`: what comes of a machine and its image that are made from a number.
 
-ghost use Rattle.std.specs.Prelude.{◌≡◌, ◌+◌, ◌*◌, ◌≤◌, ◌^◌, [], cond, Some, None, Ok, true, IfOk, length, string_bytes};
+ghost use Rattle.std.specs.Prelude.{◌≡◌, ◌+◌, ◌*◌, ◌≤◌, ◌^◌, [], cond, None, true, IfOk, length, string_bytes};
 ghost use Rattle.armcaps_image.specs.Bytes.{word_in};
 ghost use Rattle.armcaps_alt.specs.Entries.{Features, selected_of};
 ghost use Rattle.armcaps_alt.specs.Patched.{patched_image};
@@ -17,10 +17,10 @@ ghost use Rattle.armcaps_top.specs.Inside.{Comes, as_bytes};
 
 use crate::bringing::{bring, only};
 use crate::commands::Command;
+use crate::commands::patch::patched;
 use crate::ending::Ending;
 use armcaps_alt::{Layout, Names};
 use armcaps_boot::{Boot, CoreState};
-use armcaps_io::{Failed, Sink};
 use armcaps_patch::{PatchRefused, Plan};
 use armcaps_text::generate;
 use armcaps_text::laws::{generated_images_are_not_refused, generated_machines_are_sound};
@@ -43,45 +43,6 @@ pub struct Counts {
     pub changed: u32,
     /// The sum of the words of the patched image.
     pub sum: u64,
-}
-
-// A sink that keeps its bytes in memory, and fails only where there is no more of it.
-#[derive(Drop)]
-struct KeptBytes {
-    bytes: Vec<u8>,
-    faults: u64,
-}
-
-impl Sink for KeptBytes {
-    ghost held = { λ s. Some s.bytes.items };
-
-    ghost faults = { λ s. s.faults };
-
-    fn write(&mut self, piece: &[u8]) -> Result<usize, Failed> {
-        match self.bytes.extend_from_slice(piece) {
-            Ok(()) => Ok(piece.len()),
-            Err(_) => {
-                self.faults = self.faults.saturating_add(1);
-                Err(Failed)
-            }
-        }
-    }
-}
-
-// The image that a plan makes.
-fn patched(alloc: Global, plan: &Plan, image: &[u8]) -> Result<Vec<u8>, AllocError>
-    requires { length image.now ≡ plan.now.size }
-    ensures { (features : Features) (layout : Place) → StandsFor plan.now features image.now layout
-        → IfOk result (λ bytes. bytes.items ≡ patched_image features image.now layout) }
-{
-    let mut sink = KeptBytes {
-        bytes: Vec::with_capacity(alloc, image.len())?,
-        faults: 0,
-    };
-    match plan.write(image, &mut sink) {
-        Ok(()) => Ok(sink.bytes),
-        Err(_) => Err(AllocError),
-    }
 }
 
 // The word at an index.

@@ -1,6 +1,9 @@
 //! `patch`: the image, patched for the machine.
 
 ghost use Rattle.std.specs.Prelude.{◌≡◌, ◌≤◌, IfOk, [], drop, length};
+ghost use Rattle.armcaps_alt.specs.Entries.{Features};
+ghost use Rattle.armcaps_alt.specs.Patched.{patched_image};
+ghost use Rattle.armcaps_alt.specs.declared.table_place.Layout.{Layout as Place};
 ghost use Rattle.armcaps_board.specs.Steps.{history};
 ghost use Rattle.armcaps_boot.specs.Findings.{findings_after};
 ghost use Rattle.armcaps_patch.specs.Features.{features_of_findings};
@@ -17,12 +20,13 @@ ghost use Rattle.armcaps_top.specs.declared.commands.Command.TheVariants as Comm
 use crate::bringing::{bring, only};
 use crate::document::machine_of;
 use crate::ending::Ending;
+use crate::kept_bytes::KeptBytes;
 use crate::reason::Reason;
 use armcaps_boot::Boot;
 use armcaps_io::Sink;
 use armcaps_patch::{PatchRefused, Plan};
 use armcaps_text::Machine;
-use std::alloc::Global;
+use std::alloc::{AllocError, Global};
 
 /// Brings the machine up, and plans its patched image.
 pub fn plan_of(
@@ -51,8 +55,24 @@ pub fn plan_of(
     }
 }
 
-// The bytes from a place on.
-fn bytes_from(bytes: &[u8], place: usize) -> &[u8]
+/// The image that a plan makes.
+pub fn patched(alloc: Global, plan: &Plan, image: &[u8]) -> Result<Vec<u8>, AllocError>
+    requires { length image.now ≡ plan.now.size }
+    ensures { (features : Features) (layout : Place) → StandsFor plan.now features image.now layout
+        → IfOk result (λ bytes. bytes.items ≡ patched_image features image.now layout) }
+{
+    let mut sink = KeptBytes {
+        bytes: Vec::with_capacity(alloc, image.len())?,
+        faults: 0,
+    };
+    match plan.write(image, &mut sink) {
+        Ok(()) => Ok(sink.bytes),
+        Err(_) => Err(AllocError),
+    }
+}
+
+/// The bytes from a place on.
+pub fn bytes_from(bytes: &[u8], place: usize) -> &[u8]
     requires { place ≤ length bytes.now }
     ensures { result.now ≡ drop place bytes.now }
 {

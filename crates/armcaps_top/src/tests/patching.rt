@@ -156,7 +156,7 @@ fn put_word(image: &mut [u8], place: usize, word: u32) {
 }
 
 // Puts words at places of an image.
-fn put(image: &mut [u8], words: &str) -> Result<(), Fail> {
+pub fn put(image: &mut [u8], words: &str) -> Result<(), Fail> {
     for entry in words.split_whitespace() {
         let (place, word) = entry.split_once(':').ok_or("no place")?;
         let place = usize::from_str_radix(place, 16)?;
@@ -166,7 +166,7 @@ fn put(image: &mut [u8], words: &str) -> Result<(), Fail> {
 }
 
 // A document of one core that has these lines after `finalise`, with its image.
-fn document(alloc: Global, lines: &str, image: &[u8]) -> Result<Vec<u8>, AllocError> {
+pub fn document(alloc: Global, lines: &str, image: &[u8]) -> Result<Vec<u8>, AllocError> {
     let text = format!(in alloc;
         "armcaps 1\ncore 0\nctr_el0 0x84448004\nboot 0\nfinalise\n{lines}"
     )?;

@@ -1,4 +1,4 @@
-use Rattle.std.proofs.Common.{◌∷◌, length, get_or, refl, subst, sym, ◌∙◌}
+use Rattle.std.proofs.Common.{◌∷◌, get_or, refl, subst, sym, ◌∙◌}
 use Rattle.std.specs.Prelude.{List}
 use Rattle.armcaps_board.specs.declared.event.Event.{Event}
 use Rattle.armcaps_board.specs.declared.event.Event.TheVariants.{Check}

@@ -1,4 +1,4 @@
-use Rattle.std.proofs.Common.{◌≡◌, ℕ, List, Ok, ap, subst, sym, ◌∙◌}
+use Rattle.std.proofs.Common.{ℕ, List, Ok, subst, sym}
 use Rattle.std.specs.Prelude.{Result}
 use Rattle.armcaps_alt.specs.Entries.{Features}
 use Rattle.armcaps_board.specs.Steps.{history}

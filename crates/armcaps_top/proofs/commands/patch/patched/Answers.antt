@@ -1,6 +1,6 @@
 use Rattle.std.proofs.Common.{ℕ, List, ◌++◌, ap, ◌∙◌}
 use Rattle.armcaps_alt.specs.Patched.{patched_image}
-use Rattle.armcaps_top.proofs.commands.demo.patched.Goals as goal
+use Rattle.armcaps_top.proofs.commands.patch.patched.Goals as goal
 
 pub returns-in-Ok : goal.returns-in-Ok
 returns-in-Ok c = λ features layout stands.
