@@ -1,3 +1,5 @@
 -- Lemmas, by subject.
+pub mod Accepting
 pub mod Lookup
+pub mod Replacing
 pub mod Worked

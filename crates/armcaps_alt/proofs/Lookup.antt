@@ -6,23 +6,8 @@ use Rattle.std.proofs.lemmas.Bool.Decides.{nat_tests}
 use Rattle.std.proofs.lemmas.Cmp.{ranked}
 use Rattle.std.proofs.lemmas.List.{get_or-map, length-map}
 use Rattle.std.proofs.lemmas.Map.Keys.{below_from_sorted, sorted_from_strictly_increasing}
+use Rattle.armcaps_logic.proofs.Searches.{find_absent, find_present}
 use Rattle.armcaps_alt.specs.Names.{value_at}
-
--- the first element that passes is found
-pub find_present : {X : Type 0} (p : X → Bool) (xs : List X) (i : ℕ) (d : X) → i < length xs → ((k : ℕ) → k < i → p (get_or xs k d) ≡ false) → p (get_or xs i d) ≡ true → find p xs ≡ Some (get_or xs i d)
-find_present p [] i d within before here = absurd (omega arith)
-find_present p (x ∷ xs) zero d within before here = rw here refl
-find_present p (x ∷ xs) (suc i) d within before here =
-    let first = before 0 (omega arith) in
-    let later = find_present p xs i d (omega arith) (λ k lt. before (suc k) (omega arith)) here in
-    rw first later
-
--- none is found where none passes
-pub find_absent : {X : Type 0} (p : X → Bool) (xs : List X) → ((k : ℕ) (d : X) → k < length xs → p (get_or xs k d) ≡ false) → find p xs ≡ None
-find_absent p [] fail = refl
-find_absent p (x ∷ xs) fail =
-    let first = fail 0 x (omega arith) in
-    rw first (find_absent p xs (λ k d lt. fail (suc k) d (omega arith)))
 
 module _ {V : Type 0} (xs : List (ℕ × V)) (rise : IsStrictlyIncreasing (map (λ e. e.0) xs)) (key : ℕ) where
   -- the keys rise from any place to any later one

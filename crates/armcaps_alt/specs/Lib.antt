@@ -3,4 +3,6 @@ pub mod Names
 pub mod Entries
 pub mod Words
 pub mod Refusals
+pub mod Accepted
 pub mod Patched
+pub mod Laws

@@ -3,6 +3,7 @@ use Rattle.std.specs.Prelude.{◌==◌, ◌+◌, ◌*◌, ◌/◌, ◌%◌, ◌^
 use Rattle.std.specs.List.{range_with_len}
 use Rattle.std.specs.Option.{option_map_or}
 use Rattle.armcaps_insn.specs.declared.correction.FixRefused.{FixRefused}
+use Rattle.armcaps_insn.specs.Encodings.{nop}
 use Rattle.armcaps_insn.specs.Moved.{corrected}
 use Rattle.armcaps_alt.specs.declared.callback_kind.CallbackKind.{CallbackKind}
 use Rattle.armcaps_alt.specs.declared.callback_kind.CallbackKind.TheVariants as callback
@@ -30,7 +31,7 @@ move_of index word register =
 -- the word that a callback makes: NOP; the load of CTR_EL0 into the register of the first word; HVC #0, SMC #0 or the
 -- original word; the original word
 abbrev pub callback_word_of : CallbackKind → ℕ → ℕ → Conduit → ℕ → ℕ → ℕ
-callback_word_of callback.Nops index ctr way first orig = 0xd503201f
+callback_word_of callback.Nops index ctr way first orig = nop
 callback_word_of callback.FinalCtr index ctr way first orig = move_of index ctr (first % 2 ^ 5)
 callback_word_of callback.Conduit index ctr conduit.None first orig = orig
 callback_word_of callback.Conduit index ctr conduit.Hvc first orig = 0xd4000002

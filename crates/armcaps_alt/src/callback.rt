@@ -3,10 +3,9 @@ ghost use Rattle.armcaps_alt.specs.Words.{IsIndex, callback_word_of};
 
 use crate::callback_kind::CallbackKind;
 use crate::smccc_conduit::Conduit;
+use armcaps_insn::NOP;
 
-// NOP, HVC #0, SMC #0, and MOVZ and MOVK of a 64-bit register (Arm ARM DDI 0487, "NOP", "HVC", "SMC", "MOVZ", "MOVK").
-const NOP: u32 = 0xd503_201f;
-
+// HVC #0, SMC #0, and MOVZ and MOVK of a 64-bit register (Arm ARM DDI 0487, "HVC", "SMC", "MOVZ", "MOVK").
 const HVC: u32 = 0xd400_0002;
 
 const SMC: u32 = 0xd400_0003;

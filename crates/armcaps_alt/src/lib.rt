@@ -4,6 +4,7 @@
 
 mod callback;
 mod callback_kind;
+mod laws;
 mod named_number;
 mod number_names;
 mod patch_kind;
@@ -16,6 +17,7 @@ mod tests;
 
 pub use callback::callback_word;
 pub use callback_kind::CallbackKind;
+pub use laws::the_last_entry_replaces;
 pub use named_number::Named;
 pub use number_names::Names;
 pub use patch_kind::PatchKind;

@@ -1,12 +1,13 @@
 -- Each word of a generated replacement can move, and has 32 bits.
 use Rattle.std.proofs.Common.{◌≡◌, ℕ, ◌+◌, ◌-◌, ◌*◌, ◌/◌, ◌%◌, ◌^◌, ◌<◌, pos, ◌-ℤ◌, arith, lit<}
 use Rattle.std.proofs.lemmas.Nat.{mod_below}
+use Rattle.armcaps_insn.specs.Encodings.{nop}
 use Rattle.armcaps_insn.specs.Immediates.{immediate, with_offset}
 use Rattle.armcaps_insn.specs.Moved.{corrected}
 use Rattle.armcaps_generate.specs.LargeImage.{instruction_word}
 use Rattle.armcaps_generate.specs.declared.instruction.Instruction.{Instruction}
 use Rattle.armcaps_generate.specs.declared.instruction.Instruction.TheVariants.{Move, Call, Page, Nop}
-use Rattle.armcaps_generate.proofs.MovedWords.{IsCorrected, call_fits, call_moves, move_stays, no_operation_stays, page_fits, page_moves}
+use Rattle.armcaps_generate.proofs.MovedWords.{IsCorrected, call_fits, call_moves, move_stays, nop_stays, page_fits, page_moves}
 
 -- a call, by its places in words
 call_at : (target from to low high a b c : ℕ) → target ≡ 4 * a → from ≡ 4 * b → to ≡ 4 * c → a < 2 ^ 22 → b < 2 ^ 22 → c < 2 ^ 22 → IsCorrected (corrected (with_offset (immediate 0x03ffffff 0 26 0 2) 0x94000000 (pos target -ℤ pos from)) from to low high)
@@ -25,7 +26,7 @@ word_moves (Call number) from to low high f t few near =
 word_moves (Page number) from to low high f t few near =
     let small = mod_below number 512 (lit< tt) in
     page_moves (number % 512) from to low high (omega (arith, small)) (omega (arith, few)) (omega (arith, near))
-word_moves Nop from to low high f t few near = (0xd503201f, no_operation_stays from to low high)
+word_moves Nop from to low high f t few near = (nop, nop_stays from to low high)
 
 pub word_small : (instruction : Instruction) (from : ℕ) → from % 4 ≡ 0 → from < 2 ^ 22 → instruction_word from instruction < 2 ^ 32
 unfolding instruction_word

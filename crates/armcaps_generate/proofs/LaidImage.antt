@@ -8,7 +8,8 @@ use Rattle.std.proofs.lemmas.Nat.{mod_below}
 use Rattle.armcaps_generate.specs.Alternatives.{Alternative, alternative_drawn, generated_alternatives}
 use Rattle.armcaps_generate.specs.Cores.{others_drawn}
 use Rattle.armcaps_generate.specs.Draws.{number_drawn}
-use Rattle.armcaps_generate.specs.LargeImage.{entry_bytes, image_of, laid, no_operation, replacement_bytes, replacement_place, site_bytes, slot, instruction_word, instruction_words, zeros}
+use Rattle.armcaps_insn.specs.Encodings.{nop}
+use Rattle.armcaps_generate.specs.LargeImage.{entry_bytes, image_of, laid, replacement_bytes, replacement_place, site_bytes, slot, instruction_word, instruction_words, zeros}
 use Rattle.armcaps_generate.specs.declared.instruction.Instruction.{Instruction}
 use Rattle.armcaps_generate.specs.declared.instruction.Instruction.TheVariants.{Nop}
 use Rattle.armcaps_generate.proofs.Drawing.{each_drawn, few_instructions, length-several}
@@ -49,7 +50,7 @@ pub length-entry : (index : ℕ) (alternative : Alternative) → IsDrawn alterna
 length-entry index alternative drawn = refl
 
 pub length-site : (index : ℕ) (alternative : Alternative) → IsDrawn alternative → length (site_bytes index alternative) ≡ 32
-length-site index alternative drawn = length-slot (replicate (length alternative.instructions) no_operation) (omega (arith, drawn.few, length-replicate (length alternative.instructions) no_operation))
+length-site index alternative drawn = length-slot (replicate (length alternative.instructions) nop) (omega (arith, drawn.few, length-replicate (length alternative.instructions) nop))
 
 pub length-replacement : (index : ℕ) (alternative : Alternative) → IsDrawn alternative → length (replacement_bytes index alternative) ≡ 32
 length-replacement index alternative drawn = length-slot (instruction_words (replacement_place index) alternative.instructions) (omega (arith, drawn.few, length-words (replacement_place index) alternative.instructions))

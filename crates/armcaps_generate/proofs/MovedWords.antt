@@ -11,7 +11,7 @@ use Rattle.armcaps_insn.specs.declared.correction.FixRefused.TheVariants as refu
 use Rattle.armcaps_insn.specs.declared.instruction_class.Class.{Class}
 use Rattle.armcaps_insn.specs.declared.instruction_class.Class.TheVariants.{Jump26, Page, Other}
 use Rattle.armcaps_insn.specs.Decoded.{base_of, decoded, insn_of}
-use Rattle.armcaps_insn.specs.Encodings.{class_of, encodings}
+use Rattle.armcaps_insn.specs.Encodings.{class_of, encodings, nop}
 use Rattle.armcaps_insn.specs.Immediates.{immediate, immediate_of, is_in_range, offset_in, rest_in, with_offset}
 use Rattle.armcaps_insn.specs.Moved.{corrected, corrected_by, is_inside, offset_to, relocated}
 use Rattle.armcaps_insn.proofs.Moves.{new_decoded, new_fits}
@@ -65,13 +65,13 @@ move_stays number from to low high small =
     let class : class_of word ≡ Other = ap class_of parts ∙ class_high 0x52 (0x800000 + 32 * number) (omega arith) ∙ move_class in
     ap (λ (class : Class). corrected_by (immediate_of class) class word from to low high) class
 
-nop_class : class_of 0xd503201f ≡ Other
+nop_class : class_of nop ≡ Other
 unfolding class_of encodings
 nop_class = refl
 
 -- so does NOP
-pub no_operation_stays : (from to low high : ℕ) → corrected 0xd503201f from to low high ≡ Ok 0xd503201f
-no_operation_stays from to low high = ap (λ (class : Class). corrected_by (immediate_of class) class 0xd503201f from to low high) nop_class
+pub nop_stays : (from to low high : ℕ) → corrected nop from to low high ≡ Ok nop
+nop_stays from to low high = ap (λ (class : Class). corrected_by (immediate_of class) class nop from to low high) nop_class
 
 -- a word of a class whose offset lies there is corrected where it can have the offset that it needs
 reaches : (mask shift width low_width scale : ℕ) (class : Class) (word from to low high : ℕ) (target : ℤ) → immediate_of class ≡ Some (immediate mask shift width low_width scale) → class_of word ≡ class

@@ -5,14 +5,11 @@
 use Rattle.std.specs.Prelude.{ℕ, ◌+◌, ◌-◌, ◌*◌, ◌/◌, ◌%◌, ◌-ℤ◌, pos, List, [], ◌∷◌, ◌++◌, length, map, replicate, flat_map}
 use Rattle.std.specs.Int.{to_le_bytes, w16, w32}
 use Rattle.std.specs.List.{enumerate_from}
+use Rattle.armcaps_insn.specs.Encodings.{nop}
 use Rattle.armcaps_insn.specs.Immediates.{immediate, with_offset}
 use Rattle.armcaps_generate.specs.Alternatives.{Alternative, generated_alternatives}
 use Rattle.armcaps_generate.specs.declared.instruction.Instruction.{Instruction}
 use Rattle.armcaps_generate.specs.declared.instruction.Instruction.TheVariants.{Move, Call, Page, Nop}
-
--- NOP
-abbrev pub no_operation : ℕ
-no_operation = 0xd503201f
 
 -- the word of an instruction at a place: MOVZ W0 of the lower 16 bits of a number, BL to one of the first 1,000 words
 -- of the sites, ADRP X0 of one of the first 512 pages, or NOP
@@ -22,7 +19,7 @@ instruction_word place (Call number) =
     with_offset (immediate 0x03ffffff 0 26 0 2) 0x94000000 (pos (262_144 + 4 * (number % 1000)) -ℤ pos place)
 instruction_word place (Page number) =
     with_offset (immediate 0x60ffffe0 5 19 2 12) 0x90000000 (pos (4096 * (number % 512)) -ℤ pos (place / 4096 * 4096))
-instruction_word place Nop = no_operation
+instruction_word place Nop = nop
 
 -- the words of instructions from a place on
 abbrev pub instruction_words : ℕ → List Instruction → List ℕ
@@ -60,7 +57,7 @@ entry_bytes index alternative =
 
 -- the site: as many times NOP as the replacement has words
 abbrev pub site_bytes : ℕ → Alternative → List ℕ
-site_bytes index alternative = slot (replicate (length alternative.instructions) no_operation)
+site_bytes index alternative = slot (replicate (length alternative.instructions) nop)
 
 -- the replacement: the words of its instructions
 abbrev pub replacement_bytes : ℕ → Alternative → List ℕ

@@ -6,10 +6,8 @@ ghost use Rattle.armcaps_generate.specs.LargeImage.{entry_bytes, image_of, laid,
 
 use crate::alternative::Alternative;
 use crate::instruction::Instruction;
+use armcaps_insn::NOP;
 use std::alloc::{AllocError, Global};
-
-// NOP.
-const NO_OPERATION: u32 = 0xd503_201f;
 
 // BL at a place to an earlier one.
 fn call(place: u32, target: u32) -> u32
@@ -48,7 +46,7 @@ fn instruction_word(place: u32, instruction: Instruction) -> u32
         Instruction::Move(number) => 0x5280_0000 + 32 * (number % 65_536),
         Instruction::Call(number) => call(place, 262_144 + 4 * (number % 1000)),
         Instruction::Page(number) => address(place / 4096, number % 512),
-        Instruction::Nop => NO_OPERATION,
+        Instruction::Nop => NOP,
     }
 }
 
@@ -115,7 +113,7 @@ fn push_site(
     requires few { length alternative.now.instructions ≤ 4 }
     ensures { OnOk result (image.new.items ≡ image.old.items ++ site_bytes 0 alternative.now) }
 {
-    let words = vec![in alloc; NO_OPERATION; alternative.instructions.len()]?;
+    let words = vec![in alloc; NOP; alternative.instructions.len()]?;
     push_slot(image, &words)
 }
 

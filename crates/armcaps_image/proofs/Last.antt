@@ -1,13 +1,12 @@
 -- The last item that passes.
-use Rattle.std.proofs.Common.{◌≡◌, ◌+◌, ◌<◌, ◌≤◌, ◌∷◌, ◌++◌, ◌∙◌, ◌⊎◌, ℕ, Bool, List, [], None, Option, Some, ap, arith, drop, false, get_or, inl, inr, length, map, refl, subst, sym, suc, take, true}
+use Rattle.std.proofs.Common.{◌&&◌, zero, zero-add, ◌≡◌, ◌+◌, ◌<◌, ◌≤◌, ◌∷◌, ◌++◌, ◌∙◌, ◌⊎◌, ℕ, Bool, List, [], None, Option, Some, ap, arith, drop, false, get_or, inl, inr, length, map, refl, subst, sym, suc, take, true}
+use Rattle.std.specs.List.{filter, range_with_len}
 use Rattle.std.specs.Option.{option_map, option_or}
-use Rattle.std.proofs.lemmas.Bool.{cases_Bool}
+use Rattle.std.proofs.lemmas.Bool.{cases_Bool, cases_lt}
 use Rattle.std.proofs.lemmas.List.{get_or-drop, get_or-take, length-drop, length-take, take-append-drop}
+use Rattle.armcaps_logic.proofs.Lists.{range_with_len-push}
+use Rattle.armcaps_logic.proofs.Options.{option_cases, option_or-none}
 use Rattle.armcaps_image.specs.Last.{last_that}
-
-option_cases : {X : Type 0} (o : Option X) → (o ≡ None) ⊎ ((x : X) × (o ≡ Some x))
-option_cases None = inl refl
-option_cases (Some x) = inr (x, refl)
 
 -- two tests that agree on a list have the same last item
 pub last_that-same : {X : Type 0} (one other : X → Bool) (xs : List X)
@@ -88,3 +87,31 @@ last_that-middle {X} test xs a b within before behind =
       | inr (x, found) ↦ rw found refl
     ]) in
     sym (second ∙ first)
+
+-- the last number of a range that passes
+pub last_that-range : (test : ℕ → Bool) (count number : ℕ) → number < count → test number ≡ true
+    → ((later : ℕ) → number < later → later < count → test later ≡ false)
+    → last_that test (range_with_len 0 count) ≡ Some number
+last_that-range test zero number within here later = absurd (omega arith)
+last_that-range test (suc c) number within here later =
+    let next : suc c ≡ c + 1 = omega arith in
+    let more : range_with_len 0 (suc c) ≡ range_with_len 0 c ++ c ∷ [] =
+    ap (λ n. range_with_len 0 n) next ∙ range_with_len-push 0 c ∙ ap (λ k. range_with_len 0 c ++ k ∷ []) (zero-add c) in
+    ap (last_that test) more ∙ last_that-append test (range_with_len 0 c) (c ∷ []) ∙ elim (cases_lt number c) [
+      | inl less ↦
+          let fails : test c ≡ false = later c less (omega arith) in
+          rw fails (last_that-range test c number less here (λ l a b. later l a (omega arith)))
+      | inr last ↦
+          let same : number ≡ c = omega arith in
+          let passes : test c ≡ true = subst (λ (k : ℕ). test k ≡ true) same here in
+          rw passes (ap (λ (k : ℕ). Some k) (sym same))
+    ]
+
+-- the last that passes of those that are kept is the last that is kept and passes
+pub last_that-filter : {X : Type 0} (keep test : X → Bool) (xs : List X)
+    → last_that test (filter keep xs) ≡ last_that (λ x. keep x && test x) xs
+last_that-filter keep test [] = refl
+last_that-filter {X} keep test (x ∷ xs) = elim (cases_Bool (keep x)) [
+  | inl stays ↦ rw stays (rw (last_that-filter keep test xs) refl)
+  | inr goes ↦ rw goes (last_that-filter keep test xs ∙ sym (option_or-none (last_that (λ (y : X). keep y && test y) xs)))
+]

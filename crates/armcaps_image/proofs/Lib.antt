@@ -1,3 +1,4 @@
 -- Lemmas, by subject.
 pub mod Last
+pub mod Within
 pub mod Words

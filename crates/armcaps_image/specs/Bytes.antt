@@ -1,5 +1,6 @@
 -- Numbers in bytes, the lowest byte first.
-use Rattle.std.specs.Prelude.{◌+◌, ◌*◌, ◌/◌, ◌%◌, ◌^◌, ◌-ℤ◌, ℕ, ℤ, List, if◌then◌else◌, nat_le, pos, slice_index}
+use Rattle.std.specs.List.{All}
+use Rattle.std.specs.Prelude.{◌+◌, ◌*◌, ◌/◌, ◌%◌, ◌^◌, ◌<◌, ◌-ℤ◌, ℕ, ℤ, List, if◌then◌else◌, nat_le, pos, slice_index}
 
 -- the number in the two bytes at a place
 abbrev pub half_in : List ℕ → ℕ → ℕ
@@ -22,6 +23,10 @@ signed_in bytes place =
 -- a number of eight bytes, read in two's complement
 abbrev pub as_signed_quad : ℕ → ℤ
 as_signed_quad quad = if nat_le (2 ^ 63) quad then pos quad -ℤ pos (2 ^ 64) else pos quad
+
+-- each of these numbers is a byte
+abbrev pub AreBytes : List ℕ → Type 0
+AreBytes bytes = All (λ byte. byte < 2 ^ 8) bytes
 
 -- a byte of a word, counted from the lowest, which is 0
 abbrev pub byte_of : ℕ → ℕ → ℕ

@@ -6,7 +6,8 @@ use Rattle.std.proofs.lemmas.Nat.{and-not, and_comm, mul-add-lt, shl-shr, shr_be
 use Rattle.std.proofs.lemmas.Nat.Bits.{and_high, bit_at-lt, bit_at_and, bit_at_not, bit_at_or, same_from_bits_below}
 use Rattle.std.specs.Int.{bit_at, w32}
 use Rattle.armcaps_insn.specs.declared.immediates.Immediate.{Immediate}
-use Rattle.armcaps_insn.specs.Immediates.{IsImmediate, field, field_mask, offset_bits, offset_width, placed, rest_in}
+use Rattle.armcaps_bits.specs.Field.{unsigned_field}
+use Rattle.armcaps_insn.specs.Immediates.{IsImmediate, field_mask, offset_bits, offset_width, placed, rest_in}
 
 -- a word that keeps the bits of one outside a mask, and has others in it
 module _ (mask word bits : ℕ) (mask_fits : mask < 2 ^ 32) (word_fits : word < 2 ^ 32) (bits_fit : bits < 2 ^ 32) (within : bit_and bits mask ≡ bits) where
@@ -43,12 +44,12 @@ module _ (mask word bits : ℕ) (mask_fits : mask < 2 ^ 32) (word_fits : word < 
       omega (arith, e, o, outside_at i small, bits_at i, bit_at-lt word i, bit_at-lt bits i, bit_at-lt mask i))
 
 -- a field of a word's low bits
-field-low : (rest shift width n : ℕ) → field shift width (n % 2 ^ (rest + (width + shift))) ≡ field shift width n
+field-low : (rest shift width n : ℕ) → unsigned_field shift width (n % 2 ^ (rest + (width + shift))) ≡ unsigned_field shift width n
 field-low rest shift width n =
     sym (field_of (n % 2 ^ (rest + (width + shift))) width shift) ∙ ap (λ m. m / 2 ^ shift) (mod-mod-pow n rest (width + shift)) ∙ field_of n width shift
 
 -- two numbers side by side, the second far above the first
-apart_high : (shift width gap high low : ℕ) → high < 2 ^ width → field shift width (high * 2 ^ shift + low * 2 ^ (gap + (width + shift))) ≡ high
+apart_high : (shift width gap high low : ℕ) → high < 2 ^ width → unsigned_field shift width (high * 2 ^ shift + low * 2 ^ (gap + (width + shift))) ≡ high
 apart_high shift width gap high low fit =
     let place : 2 ^ (gap + (width + shift)) ≡ 2 ^ gap * 2 ^ width * 2 ^ shift = pow-add 2 gap (width + shift) ∙ ap (λ n. 2 ^ gap * n) (pow-add 2 width shift) ∙ sym (mul_assoc (2 ^ gap) (2 ^ width) (2 ^ shift)) in
     let sum : high * 2 ^ shift + low * 2 ^ (gap + (width + shift)) ≡ (low * 2 ^ gap * 2 ^ width + high) * 2 ^ shift = rw place (omega arith) in
@@ -63,10 +64,10 @@ module _ (i : Immediate) (is : IsImmediate i) where
   to_gap = let below = is.below in omega arith
 
   abbrev high : ℕ → ℕ
-  high n = field i.shift i.width n
+  high n = unsigned_field i.shift i.width n
 
   abbrev low : ℕ → ℕ
-  low n = field 29 i.low_width n
+  low n = unsigned_field 29 i.low_width n
 
   high_fits : (n : ℕ) → high n < 2 ^ i.width
   high_fits n = mod_below (n / 2 ^ i.shift) (2 ^ i.width) (pow_pos i.width)
@@ -94,7 +95,7 @@ module _ (i : Immediate) (is : IsImmediate i) where
       let mask_is : i.mask ≡ (2 ^ i.low_width - 1) * 2 ^ 29 + fm = omega (arith, is.bits, pow-add 2 i.low_width 29, pow_pos i.low_width) in
       let parts = and_block 29 (n / 2 ^ 29) (2 ^ i.low_width - 1) (n % 2 ^ 29) fm (mod_below n (2 ^ 29) (lit< tt)) fm_fits in
       let whole : bit_and n i.mask ≡ bit_and (n / 2 ^ 29 * 2 ^ 29 + n % 2 ^ 29) ((2 ^ i.low_width - 1) * 2 ^ 29 + fm) = cc (n_is, mask_is) in
-      let here : high (n % 2 ^ 29) ≡ high n = (let Is : ℕ → Type 0 = λ m. field i.shift i.width (n % 2 ^ m) ≡ high n in subst Is to_gap (field-low gap i.shift i.width n)) in
+      let here : high (n % 2 ^ 29) ≡ high n = (let Is : ℕ → Type 0 = λ m. unsigned_field i.shift i.width (n % 2 ^ m) ≡ high n in subst Is to_gap (field-low gap i.shift i.width n)) in
       let upper = and_mask (n / 2 ^ 29) i.low_width in
       let lower = and_high (n % 2 ^ 29) i.width i.shift in
       rw (shr_high (high n) i.low_width (low n) (low_fits n), mod_low (high n) i.low_width (low n) (low_fits n)) (omega (arith, whole, parts, upper, lower, ap (λ m. m * 2 ^ i.shift) here))
@@ -106,7 +107,7 @@ module _ (i : Immediate) (is : IsImmediate i) where
       let rest : ℕ = bits % 2 ^ i.low_width in
       let top_fits : top < 2 ^ i.width = shr_below bits i.width i.low_width fit in
       let rest_fits : rest < 2 ^ i.low_width = mod_below bits (2 ^ i.low_width) (pow_pos i.low_width) in
-      let first : high (placed i bits) ≡ top = (let Is : ℕ → Type 0 = λ m. field i.shift i.width (top * 2 ^ i.shift + rest * 2 ^ m) ≡ top in subst Is to_gap (apart_high i.shift i.width gap top rest top_fits)) in
+      let first : high (placed i bits) ≡ top = (let Is : ℕ → Type 0 = λ m. unsigned_field i.shift i.width (top * 2 ^ i.shift + rest * 2 ^ m) ≡ top in subst Is to_gap (apart_high i.shift i.width gap top rest top_fits)) in
       let turned : placed i bits ≡ rest * 2 ^ 29 + top * 2 ^ i.shift = omega arith in
       let second : low (placed i bits) ≡ rest = ap (λ n. n / 2 ^ 29 % 2 ^ i.low_width) turned ∙ ap (λ n. n % 2 ^ i.low_width) (shr_high rest 29 (top * 2 ^ i.shift) (below_29 top top_fits)) ∙ mod-eq_of_lt rest_fits in
       ap (λ n. n * 2 ^ i.low_width + low (placed i bits)) first ∙ ap (λ n. top * 2 ^ i.low_width + n) second ∙ shr_split bits i.low_width

@@ -1,6 +1,6 @@
 -- A word that moves: what keeps its target, and that nothing else does.
 use Rattle.std.proofs.Common.{◌≡◌, ℕ, ◌+◌, ◌-◌, ◌*◌, ◌/◌, ◌%◌, ◌^◌, ◌<◌, suc, ℤ, pos, negsuc, ◌+ℤ◌, ◌-ℤ◌, ◌*ℤ◌, true, false, Option, None, Some, Ok, Err, refl, sym, ap, subst, ◌∙◌, inl, inr, int_rem, lit<, lit≤, arith}
-use Rattle.std.specs.Option.{option_map}
+use Rattle.std.specs.Option.{option_map, option_map_or}
 use Rattle.std.proofs.lemmas.Bool.{cases_Bool, cases_lt, false≢true}
 use Rattle.std.proofs.lemmas.Int.{ints}
 use Rattle.armcaps_insn.specs.declared.immediates.Immediate.{Immediate}
@@ -8,9 +8,10 @@ use Rattle.armcaps_insn.specs.declared.instruction_class.Class.{Class}
 use Rattle.armcaps_insn.specs.declared.instruction_class.Class.TheVariants.{Jump26, Jump19, Jump14, Page, Literal, Other}
 use Rattle.armcaps_insn.specs.declared.correction.FixRefused.TheVariants as refused
 use Rattle.armcaps_insn.specs.Encodings.{class_of, encodings}
-use Rattle.armcaps_insn.specs.Immediates.{IsImmediate, bits_for, immediate, immediate_of, is_in_range, offset_bits, offset_in, offset_width, placed, rest_in, twos_complement, with_offset}
+use Rattle.armcaps_bits.specs.Field.{signed_number}
+use Rattle.armcaps_insn.specs.Immediates.{IsImmediate, bits_for, immediate, immediate_of, is_in_range, offset_bits, offset_in, offset_width, placed, rest_in, with_offset}
 use Rattle.armcaps_insn.specs.Decoded.{base_of, decoded, insn_of, target_at}
-use Rattle.armcaps_insn.specs.Moved.{IsBranch, IsMove, IsMoved, corrected, corrected_by, is_inside, offset_to}
+use Rattle.armcaps_insn.specs.Moved.{IsBranch, IsMove, IsMoved, StaysOrMoves, corrected, corrected_by, is_inside, is_kept, offset_to, takes_no_address}
 use Rattle.armcaps_insn.proofs.Fields.{joined_fits, joined_outside, joined_inside, mask_fits, offset_bits_fit, offset_bits_from, placed_fits, placed_within, word_from_parts}
 use Rattle.armcaps_insn.proofs.Offsets.{bits_fit, bits_for-twos, in_range-twos, read_back}
 use Rattle.armcaps_insn.proofs.Stays.{class_stays}
@@ -89,7 +90,7 @@ module _ (word : ℕ) (i : Immediate) (lies : immediate_of (class_of word) ≡ S
     new_offset : offset_in i new ≡ steps *ℤ pos (2 ^ i.scale)
     new_offset =
         let inside = joined_inside i.mask word (placed i bits) (mask_fits i is) fits (placed_fits i is bits few) (placed_within i is bits few) in
-        ap (λ b. twos_complement (offset_width i) b *ℤ pos (2 ^ i.scale)) (offset_bits_from i is new bits few inside) ∙ ap (λ s. s *ℤ pos (2 ^ i.scale)) (read_back i is steps in_range)
+        ap (λ b. signed_number (offset_width i) b *ℤ pos (2 ^ i.scale)) (offset_bits_from i is new bits few inside) ∙ ap (λ s. s *ℤ pos (2 ^ i.scale)) (read_back i is steps in_range)
 
     pub new_decoded : decoded new ≡ record { class = class_of word; rest = rest_in i word; offset = Some (steps *ℤ pos (2 ^ i.scale)) }
     new_decoded =
@@ -116,7 +117,7 @@ module _ (word : ℕ) (i : Immediate) (lies : immediate_of (class_of word) ≡ S
         let unit : ℕ = 2 ^ i.scale in
         let first = base_is_multiple class i from lies move.leaves.aligned in
         let second = base_is_multiple class i to lies move.arrives.aligned in
-        let between = units_between (base_of class from / unit) (base_of class to / unit) unit (twos_complement (offset_width i) (offset_bits i word)) in
+        let between = units_between (base_of class from / unit) (base_of class to / unit) unit (signed_number (offset_width i) (offset_bits i word)) in
         (between.0, ap (λ b. (pos b +ℤ offset_in i word) -ℤ pos (base_of class to)) first ∙ ap (λ b. (pos (base_of class from / unit * unit) +ℤ offset_in i word) -ℤ pos b) second ∙ between.1)
 
     pub moved_target : target_at from word ≡ Some target
@@ -216,6 +217,54 @@ pub none_in_range : (word from to low high new : ℕ) (offset : ℤ) → correct
 none_in_range word from to low high new offset same moved =
     let far = range_refused (immediate_of (class_of word)) (class_of word) word from to low high offset same in
     none_moved word from to new far.0 far.1.0 far.1.1 moved
+
+-- a word of a class whose offset lies there, if it has one: what stays is itself
+stays_by : (class : Class) (lies : Option Immediate) (word from to low high : ℕ) → immediate_of class ≡ lies
+    → option_map_or (λ target. is_inside class target low high) (option_map (λ o. pos (base_of class from) +ℤ o) (insn_of class lies word).offset) (takes_no_address class) ≡ true
+    → corrected_by lies class word from to low high ≡ Ok word
+stays_by class (Some i) word from to low high lies kept = rw kept refl
+stays_by Jump26 None word from to low high lies kept = cc
+stays_by Jump19 None word from to low high lies kept = cc
+stays_by Jump14 None word from to low high lies kept = cc
+stays_by Page None word from to low high lies kept = cc
+stays_by Literal None word from to low high lies kept = cc
+stays_by Other None word from to low high lies kept = refl
+
+pub stays : (word from to low high : ℕ) → is_kept word from low high ≡ true → corrected word from to low high ≡ Ok word
+stays word from to low high kept = stays_by (class_of word) (immediate_of (class_of word)) word from to low high refl kept
+
+-- what isn't followed is refused
+pub literal_refused : (word from to low high : ℕ) → class_of word ≡ Literal → corrected word from to low high ≡ Err (refused.Literal word)
+literal_refused word from to low high is = ap (λ class. corrected_by (immediate_of class) class word from to low high) is
+
+-- what moves has an offset, which is in range
+moves_by : (class : Class) (lies : Option Immediate) (word from to low high new : ℕ) → immediate_of class ≡ lies
+    → option_map_or (λ target. is_inside class target low high) (option_map (λ o. pos (base_of class from) +ℤ o) (insn_of class lies word).offset) (takes_no_address class) ≡ false
+    → corrected_by lies class word from to low high ≡ Ok new
+    → (i : Immediate) × (immediate_of class ≡ Some i)
+    × (is_in_range i (offset_to class to (pos (base_of class from) +ℤ offset_in i word)) ≡ true)
+    × (with_offset i (rest_in i word) (offset_to class to (pos (base_of class from) +ℤ offset_in i word)) ≡ new)
+moves_by class (Some i) word from to low high new lies outside made =
+    let needed : ℤ = offset_to class to (pos (base_of class from) +ℤ offset_in i word) in
+    elim (cases_Bool (is_in_range i needed)) [
+      | inl near ↦ (let same : Ok (with_offset i (rest_in i word) needed) ≡ Ok new = rw (outside, near) at made in (i, lies, near, cc))
+      | inr far ↦ (let wrong : Err (refused.Range needed) ≡ Ok new = rw (outside, far) at made in cc)
+    ]
+moves_by Jump26 None word from to low high new lies outside made = cc
+moves_by Jump19 None word from to low high new lies outside made = cc
+moves_by Jump14 None word from to low high new lies outside made = cc
+moves_by Page None word from to low high new lies outside made = cc
+moves_by Literal None word from to low high new lies outside made = cc
+moves_by Other None word from to low high new lies outside made = cc
+
+pub moves : (word from to low high new : ℕ) → IsMove from to low high → word < 2 ^ 32 → corrected word from to low high ≡ Ok new → StaysOrMoves word from new to low high
+moves word from to low high new move fits made = record {
+  stays = λ kept. let same : Ok new ≡ Ok word = sym made ∙ stays word from to low high kept in cc;
+  moves = λ outside.
+      let parts = moves_by (class_of word) (immediate_of (class_of word)) word from to low high new refl outside made in
+      let moved = moved_is word parts.0 parts.1 from to low high move fits parts.2 in
+      subst (λ (n : ℕ). IsMoved word from n to) parts.3 moved;
+}
 
 -- a number that leaves no rest is a number of units
 is_multiple : (z : ℤ) → int_rem z (pos 4) ≡ pos 0 → (steps : ℤ) × (z ≡ steps *ℤ pos 4)

@@ -6,14 +6,9 @@ use Rattle.std.proofs.lemmas.Bool.{cases_lt, le-leb, lt-leb}
 use Rattle.std.proofs.lemmas.Int.{ints}
 use Rattle.std.proofs.lemmas.Nat.{mul-le, pow-add, pow_pos, div_below, shl-shr, shr_high, shr_split}
 use Rattle.armcaps_insn.specs.declared.immediates.Immediate.{Immediate}
-use Rattle.armcaps_insn.specs.Immediates.{IsImmediate, bits_for, is_in_range, offset_width, steps_in, twos_complement}
-
--- twice the least number with the top bit set
-pub pow-top : (width : ℕ) → 1 ≤ width → 2 ^ width ≡ 2 * 2 ^ (width - 1)
-pow-top width some =
-    let whole : 1 + (width - 1) ≡ width = omega arith in
-    let Is : ℕ → Type 0 = λ n. 2 ^ n ≡ 2 * 2 ^ (width - 1) in
-    subst Is whole (pow-add 2 1 (width - 1))
+use Rattle.armcaps_bits.specs.Field.{signed_number}
+use Rattle.armcaps_bits.proofs.Signs.{pow-top, signed_number-high, signed_number-low}
+use Rattle.armcaps_insn.specs.Immediates.{IsImmediate, bits_for, is_in_range, offset_width, steps_in}
 
 -- a negative number by what follows it
 neg_as : (n m : ℕ) → n ≡ suc m → neg_ℤ (pos n) ≡ negsuc m
@@ -38,12 +33,6 @@ module _ (i : Immediate) (is : IsImmediate i) where
 
   whole : 2 ^ width ≡ 2 * half
   whole = let some = is.some in pow-top width (omega arith)
-
-  pub twos-low : (bits : ℕ) → bits < half → twos_complement width bits ≡ pos bits
-  twos-low bits low = rw (lt-leb half bits low)
-
-  pub twos-high : (bits : ℕ) → half ≤ bits → bits < 2 ^ width → twos_complement width bits ≡ negsuc (2 ^ width - suc bits)
-  twos-high bits high fits = rw (le-leb half bits high) (omega (arith, ints))
 
   -- an offset of so many units, forwards and backwards
   forwards : (n : ℕ) → pos n *ℤ pos unit ≡ pos (n * unit)
@@ -73,35 +62,35 @@ module _ (i : Immediate) (is : IsImmediate i) where
       factor_le (suc n) half unit (pow_pos i.scale) le
 
   -- the bits that stand for an offset in range stand for it
-  pub read_back : (steps : ℤ) → is_in_range i (steps *ℤ pos unit) ≡ true → twos_complement width (bits_for i (steps *ℤ pos unit)) ≡ steps
-  read_back (pos n) in_range = ap (twos_complement width) (bits-forwards n) ∙ twos-low n (range-forwards n in_range)
+  pub read_back : (steps : ℤ) → is_in_range i (steps *ℤ pos unit) ≡ true → signed_number width (bits_for i (steps *ℤ pos unit)) ≡ steps
+  read_back (pos n) in_range = ap (signed_number width) (bits-forwards n) ∙ signed_number-low width n (range-forwards n in_range)
   read_back (negsuc n) in_range =
       let most = range-backwards n in_range in
       let back : 2 ^ width - suc (2 ^ width - suc n) ≡ n = omega (arith, whole) in
-      ap (twos_complement width) (bits-backwards n) ∙ twos-high (2 ^ width - suc n) (omega (arith, whole)) (omega (arith, whole, pow_pos (width - 1))) ∙ ap negsuc back
+      ap (signed_number width) (bits-backwards n) ∙ signed_number-high width (2 ^ width - suc n) (omega (arith, whole)) (omega (arith, whole, pow_pos (width - 1))) ∙ ap negsuc back
 
   pub bits_fit : (steps : ℤ) → is_in_range i (steps *ℤ pos unit) ≡ true → bits_for i (steps *ℤ pos unit) < 2 ^ width
   bits_fit (pos n) in_range = let less = range-forwards n in_range in omega (arith, bits-forwards n, whole)
   bits_fit (negsuc n) in_range = omega (arith, bits-backwards n, whole, pow_pos (width - 1))
 
   -- the offset that bits stand for is in range, and these bits stand for it
-  pub in_range-twos : (bits : ℕ) → bits < 2 ^ width → is_in_range i (twos_complement width bits *ℤ pos unit) ≡ true
+  pub in_range-twos : (bits : ℕ) → bits < 2 ^ width → is_in_range i (signed_number width bits *ℤ pos unit) ≡ true
   in_range-twos bits fit = elim (cases_lt bits half) [
     | inl low ↦
         let le : bits * unit ≤ (half - 1) * unit = mul-le-mul_right unit (omega (arith, pow_pos (width - 1))) in
         let at : is_in_range i (pos (bits * unit)) ≡ true = grind (arith, ints) in
-        ap (λ steps. is_in_range i (steps *ℤ pos unit)) (twos-low bits low) ∙ ap (is_in_range i) (forwards bits) ∙ at
+        ap (λ steps. is_in_range i (steps *ℤ pos unit)) (signed_number-low width bits low) ∙ ap (is_in_range i) (forwards bits) ∙ at
     | inr high ↦
         let n : ℕ = 2 ^ width - suc bits in
         let le : suc n * unit ≤ half * unit = mul-le-mul_right unit (omega (arith, whole)) in
         let at : is_in_range i (neg_ℤ (pos (suc n * unit))) ≡ true = grind (arith, ints) in
-        ap (λ steps. is_in_range i (steps *ℤ pos unit)) (twos-high bits high fit) ∙ ap (is_in_range i) (negsuc-*ℤ-pos n unit) ∙ at
+        ap (λ steps. is_in_range i (steps *ℤ pos unit)) (signed_number-high width bits high fit) ∙ ap (is_in_range i) (negsuc-*ℤ-pos n unit) ∙ at
   ]
 
-  pub bits_for-twos : (bits : ℕ) → bits < 2 ^ width → bits_for i (twos_complement width bits *ℤ pos unit) ≡ bits
+  pub bits_for-twos : (bits : ℕ) → bits < 2 ^ width → bits_for i (signed_number width bits *ℤ pos unit) ≡ bits
   bits_for-twos bits fit = elim (cases_lt bits half) [
-    | inl low ↦ ap (λ steps. bits_for i (steps *ℤ pos unit)) (twos-low bits low) ∙ bits-forwards bits
-    | inr high ↦ ap (λ steps. bits_for i (steps *ℤ pos unit)) (twos-high bits high fit) ∙ bits-backwards (2 ^ width - suc bits) ∙ omega (arith, whole)
+    | inl low ↦ ap (λ steps. bits_for i (steps *ℤ pos unit)) (signed_number-low width bits low) ∙ bits-forwards bits
+    | inr high ↦ ap (λ steps. bits_for i (steps *ℤ pos unit)) (signed_number-high width bits high fit) ∙ bits-backwards (2 ^ width - suc bits) ∙ omega (arith, whole)
   ]
 
 -- a number of units is no more than 2 ^ 43 bytes

@@ -2,8 +2,10 @@
 use Rattle.std.proofs.Common.{◌≡◌, ℕ, ◌-◌, ◌^◌, ◌&&◌, ◌==◌, Bool, true, false, not, List, [], ◌∷◌, Option, None, Some, bit_and, find, refl, sym, ap, subst, ◌∙◌, inl, inr, ◌⊎◌, eq-eqb}
 use Rattle.std.specs.List.{list_all}
 use Rattle.std.specs.Option.{option_map_or}
-use Rattle.std.proofs.lemmas.Bool.{cases_Bool, eqb-true, false_from_ne_true, false≢true}
+use Rattle.std.proofs.lemmas.Bool.{and_parts, cases_Bool, eqb-true, false_from_ne_true, false≢true}
 use Rattle.std.proofs.lemmas.Nat.{and_assoc, and_comm}
+use Rattle.armcaps_logic.proofs.Options.{option_cases}
+use Rattle.armcaps_logic.proofs.Searches.{find_holds, find_passes}
 use Rattle.armcaps_insn.specs.declared.encodings.Encoding.{Encoding}
 use Rattle.armcaps_insn.specs.declared.immediates.Immediate.{Immediate}
 use Rattle.armcaps_insn.specs.Encodings.{class_of, encodings, is_encoded}
@@ -34,10 +36,6 @@ table_has_other_bits = refl
 and_swap : (n a b : ℕ) → bit_and (bit_and n a) b ≡ bit_and (bit_and n b) a
 and_swap n a b = and_assoc b n a ∙ ap (bit_and n) (and_comm a b) ∙ sym (and_assoc a n b)
 
-both_true : (a b : Bool) → (a && b) ≡ true → (a ≡ true) × (b ≡ true)
-both_true true b h = (refl, h)
-both_true false b h = absurd (false≢true h)
-
 -- a word is of one kind alone
 of_one_kind : (one other : Encoding) (word : ℕ) → is_apart one other ≡ true → is_encoded word other ≡ true → is_encoded word one ≡ false
 of_one_kind one other word apart is_other = false_from_ne_true (is_encoded word one) (λ is_one.
@@ -47,39 +45,18 @@ of_one_kind one other word apart is_other = false_from_ne_true (is_encoded word 
     let equal : (bit_and one.value other.mask == bit_and other.value one.mask) ≡ true = eq-eqb _ _ same in
     absurd (false≢true (rw equal at apart)))
 
--- what is found is among the kinds
-found_passes : (test : Encoding → Bool) (fact : Encoding → Bool) (kinds : List Encoding) (kind : Encoding) → find test kinds ≡ Some kind → list_all fact kinds ≡ true → fact kind ≡ true
-found_passes test fact [] kind found all = cc
-found_passes test fact (first ∷ kinds) kind found all =
-    let parts = both_true (fact first) (list_all fact kinds) all in
-    elim (cases_Bool (test first)) [
-      | inl here ↦ (let same : Some first ≡ Some kind = rw here at found in let is : first ≡ kind = cc in subst (λ (k : Encoding). fact k ≡ true) is parts.0)
-      | inr past ↦ found_passes test fact kinds kind (rw past at found) parts.1
-    ]
-
-found_is : (test : Encoding → Bool) (kinds : List Encoding) (kind : Encoding) → find test kinds ≡ Some kind → test kind ≡ true
-found_is test [] kind found = cc
-found_is test (first ∷ kinds) kind found = elim (cases_Bool (test first)) [
-  | inl here ↦ (let same : Some first ≡ Some kind = rw here at found in let is : first ≡ kind = cc in subst (λ (k : Encoding). test k ≡ true) is here)
-  | inr past ↦ found_is test kinds kind (rw past at found)
-]
-
 -- the kind of a word is that of any other word that is of it
 found_again : (word new : ℕ) (kinds : List Encoding) (kind : Encoding) → all_apart kinds ≡ true → find (is_encoded word) kinds ≡ Some kind → is_encoded new kind ≡ true → find (is_encoded new) kinds ≡ Some kind
 found_again word new [] kind apart found is = cc
 found_again word new (first ∷ kinds) kind apart found is =
-    let parts = both_true (list_all (is_apart first) kinds) (all_apart kinds) apart in
+    let parts = and_parts (list_all (is_apart first) kinds) (all_apart kinds) apart in
     elim (cases_Bool (is_encoded word first)) [
       | inl here ↦ (let same : Some first ≡ Some kind = rw here at found in let it : first ≡ kind = cc in let again : is_encoded new first ≡ true = rw it is in rw again same)
       | inr past ↦
           let later : find (is_encoded word) kinds ≡ Some kind = rw past at found in
-          let other : is_encoded new first ≡ false = of_one_kind first kind new (found_passes (is_encoded word) (is_apart first) kinds kind later parts.0) is in
+          let other : is_encoded new first ≡ false = of_one_kind first kind new (find_holds (is_encoded word) (is_apart first) kinds kind later parts.0) is in
           rw other (found_again word new kinds kind parts.1 later is)
     ]
-
-option_cases : {X : Type 0} (o : Option X) → (o ≡ None) ⊎ ((x : X) × (o ≡ Some x))
-option_cases None = inl refl
-option_cases (Some x) = inr (x, refl)
 
 -- a word that has the other bits of one with an offset is of its class
 pub class_stays : (word new : ℕ) (i : Immediate) → immediate_of (class_of word) ≡ Some i → bit_and new (2 ^ 32 - 1 - i.mask) ≡ bit_and word (2 ^ 32 - 1 - i.mask) → class_of new ≡ class_of word
@@ -88,9 +65,9 @@ class_stays word new i has rest = elim (option_cases (find (is_encoded word) enc
   | inl none ↦ (let nothing : None ≡ Some i = rw none at has in cc)
   | inr (kind, found) ↦
       let lies : immediate_of kind.class ≡ Some i = rw found at has in
-      let fact : has_other_bits kind ≡ true = found_passes (is_encoded word) has_other_bits encodings kind found table_has_other_bits in
+      let fact : has_other_bits kind ≡ true = find_holds (is_encoded word) has_other_bits encodings kind found table_has_other_bits in
       let outside : bit_and (2 ^ 32 - 1 - i.mask) kind.mask ≡ kind.mask = eqb-true _ _ (rw lies at fact) in
-      let is : bit_and word kind.mask ≡ kind.value = eqb-true _ _ (found_is (is_encoded word) encodings kind found) in
+      let is : bit_and word kind.mask ≡ kind.value = eqb-true _ _ (find_passes (is_encoded word) encodings kind found) in
       let seen : (n : ℕ) → bit_and (bit_and n (2 ^ 32 - 1 - i.mask)) kind.mask ≡ bit_and n kind.mask = λ (n : ℕ). and_assoc kind.mask n (2 ^ 32 - 1 - i.mask) ∙ ap (bit_and n) outside in
       let again : bit_and new kind.mask ≡ kind.value = sym (seen new) ∙ ap (λ n. bit_and n kind.mask) rest ∙ seen word ∙ is in
       rw (found_again word new encodings kind table_is_apart found (eq-eqb _ _ again), found) refl

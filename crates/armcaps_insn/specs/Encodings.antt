@@ -33,3 +33,7 @@ is_encoded word kind = bit_and word kind.mask == kind.value
 -- the class of a word: that of its kind, and Other where it is of none
 unfoldable pub class_of : ℕ → Class
 class_of word = option_map_or (λ kind. kind.class) (find (is_encoded word) encodings) Other
+
+-- NOP, the instruction that does nothing (Arm ARM DDI 0487, "NOP")
+abbrev pub nop : ℕ
+nop = 0xd503201f

@@ -1,6 +1,7 @@
 -- Where an instruction's offset lies in its word, and what it stands for (Arm ARM DDI 0487, the encodings of B, BL,
 -- B.cond, CBZ, CBNZ, TBZ, TBNZ and ADRP: `imm26`, `imm19`, `imm14`, and `immhi:immlo`).
 use Rattle.std.specs.Prelude.{◌≡◌, ◌+◌, ◌-◌, ◌*◌, ◌/◌, ◌%◌, ◌^◌, ◌≤◌, ◌&&◌, ◌-ℤ◌, ◌*ℤ◌, ℕ, suc, ℤ, pos, negsuc, Bool, Option, Some, None, bit_and, bit_or, if◌then◌else◌, int_le, nat_le, neg_ℤ}
+use Rattle.armcaps_bits.specs.Field.{field_bits, signed_number, unsigned_field}
 use Rattle.armcaps_insn.specs.declared.instruction_class.Class.{Class}
 use Rattle.armcaps_insn.specs.declared.instruction_class.Class.TheVariants.{Jump26, Jump19, Jump14, Page, Literal, Other}
 use Rattle.armcaps_insn.specs.declared.immediates.Immediate.{Immediate}
@@ -20,10 +21,6 @@ immediate_of Page = Some (immediate 0x60ffffe0 5 19 2 12)
 immediate_of Literal = None
 immediate_of Other = None
 
--- the bits of a word from `shift` on, `width` of them, as a number
-abbrev pub field : ℕ → ℕ → ℕ → ℕ
-field shift width word = word / 2 ^ shift % 2 ^ width
-
 -- these bits set, and no others
 abbrev pub field_mask : ℕ → ℕ → ℕ
 field_mask shift width = 2 ^ (width + shift) - 2 ^ shift
@@ -42,15 +39,11 @@ offset_width i = i.width + i.low_width
 
 -- the offset's bits as one number
 abbrev pub offset_bits : Immediate → ℕ → ℕ
-offset_bits i word = field i.shift i.width word * 2 ^ i.low_width + field 29 i.low_width word
-
--- a number of `width` bits in two's complement
-abbrev pub twos_complement : ℕ → ℕ → ℤ
-twos_complement width number = if nat_le (2 ^ (width - 1)) number then pos number -ℤ pos (2 ^ width) else pos number
+offset_bits i word = unsigned_field i.shift i.width word * 2 ^ i.low_width + unsigned_field 29 i.low_width word
 
 -- the offset in bytes
 abbrev pub offset_in : Immediate → ℕ → ℤ
-offset_in i word = twos_complement (offset_width i) (offset_bits i word) *ℤ pos (2 ^ i.scale)
+offset_in i word = signed_number (offset_width i) (offset_bits i word) *ℤ pos (2 ^ i.scale)
 
 -- the word with the offset's bits cleared
 abbrev pub rest_in : Immediate → ℕ → ℕ
@@ -73,14 +66,9 @@ abbrev pub steps_in : Immediate → ℤ → ℤ
 steps_in i (pos n) = pos (n / 2 ^ i.scale)
 steps_in i (negsuc n) = negsuc (n / 2 ^ i.scale)
 
--- the bits that stand for a number in two's complement
-abbrev pub in_twos_complement : ℕ → ℤ → ℕ
-in_twos_complement width (pos n) = n
-in_twos_complement width (negsuc n) = 2 ^ width - suc n
-
 -- the bits that stand for an offset, a multiple of the unit
 abbrev pub bits_for : Immediate → ℤ → ℕ
-bits_for i offset = in_twos_complement (offset_width i) (steps_in i offset)
+bits_for i offset = field_bits (offset_width i) (steps_in i offset)
 
 -- these bits at their places, and no others
 abbrev pub placed : Immediate → ℕ → ℕ

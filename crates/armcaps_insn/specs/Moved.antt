@@ -51,10 +51,27 @@ corrected_by None class word from to low high = Ok word
 abbrev pub corrected : ℕ → ℕ → ℕ → ℕ → ℕ → Result ℕ FixRefused
 corrected word from to low high = corrected_by (immediate_of (class_of word)) (class_of word) word from to low high
 
--- whether a word stays as it is: it takes no address, or it jumps within its sequence
+-- whether a class takes no address from the place where it stands
+abbrev pub takes_no_address : Class → Bool
+takes_no_address Jump26 = false
+takes_no_address Jump19 = false
+takes_no_address Jump14 = false
+takes_no_address Page = false
+takes_no_address Literal = false
+takes_no_address Other = true
+
+-- whether a word stays as it is: it takes no address, or it jumps within its sequence; a word of class Literal, whose
+-- address isn't followed, does not stay
 abbrev pub is_kept : ℕ → ℕ → ℕ → ℕ → Bool
 is_kept word from low high =
-    option_map_or (λ target. is_inside (class_of word) target low high) (target_at from word) true
+    let class = class_of word in
+    option_map_or (λ target. is_inside class target low high) (target_at from word) (takes_no_address class)
+
+-- what a word becomes that moves: itself where it stays as it is, and else a word with its class, its other bits and
+-- its target
+pub record StaysOrMoves (word from new to low high : ℕ) : Type 0 where
+  pub stays : is_kept word from low high ≡ true → new ≡ word
+  pub moves : is_kept word from low high ≡ false → IsMoved word from new to
 
 -- a place of a word, within 2 ^ 40 bytes
 pub record IsPlace (place : ℕ) : Type 0 where

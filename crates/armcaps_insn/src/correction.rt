@@ -1,6 +1,6 @@
-ghost use Rattle.std.specs.Prelude.{◌≡◌, IfOk, false, ◌<◌, ◌^◌, ◌+ℤ◌, ◌≤ℤ◌, neg_ℤ, pos};
+ghost use Rattle.std.specs.Prelude.{◌≡◌, IfOk, ◌<◌, ◌^◌, ◌+ℤ◌, ◌≤ℤ◌, neg_ℤ, pos};
 ghost use Rattle.armcaps_insn.specs.Decoded.{base_of};
-ghost use Rattle.armcaps_insn.specs.Moved.{IsMove, IsMoved, corrected, is_inside, is_kept, offset_to};
+ghost use Rattle.armcaps_insn.specs.Moved.{IsMove, StaysOrMoves, corrected, is_inside, offset_to};
 
 use crate::encodings::class_of_word;
 use crate::instruction_class::Class;
@@ -22,7 +22,7 @@ pub enum FixRefused {
 pub fn correct(word: u32, from: u64, to: u64, low: u64, high: u64) -> Result<u32, FixRefused>
     requires { IsMove from to low high }
     ensures value { result ≡ corrected word from to low high }
-    ensures moved { IfOk result (λ new. is_kept word from low high ≡ false → IsMoved word from new to) }
+    ensures moved { IfOk result (λ new. StaysOrMoves word from new to low high) }
 {
     let class = class_of_word(word);
     let Some(immediate) = class.immediate() else {

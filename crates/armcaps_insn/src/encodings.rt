@@ -3,6 +3,9 @@ ghost use Rattle.armcaps_insn.specs.Encodings.{class_of, encodings, is_encoded};
 
 use crate::instruction_class::Class;
 
+/// NOP, the instruction that does nothing (Arm ARM DDI 0487, "NOP").
+pub const NOP: u32 = 0xd503_201f;
+
 // Words of one kind: those that have `value` in the bits of `mask`.
 #[derive(Clone, Copy)]
 pub(crate) struct Encoding {

@@ -1,7 +1,9 @@
-ghost use Rattle.std.specs.Prelude.{◌≡◌, ◌-◌, ◌^◌, ◌<◌, ◌≤◌, IfSome, IsTrue, pos, ◌≤ℤ◌, ◌<ℤ◌, ◌*ℤ◌, neg_ℤ};
-ghost use Rattle.armcaps_insn.specs.Immediates.{IsImmediate, bits_for, field, immediate, immediate_of, in_twos_complement, is_in_range, offset_bits, offset_in, offset_width, placed, rest_in, steps_in, twos_complement, with_offset};
+ghost use Rattle.std.specs.Prelude.{◌≡◌, ◌-◌, ◌^◌, ◌<◌, ◌≤◌, IfSome, IsTrue, pos, ◌≤ℤ◌, ◌<ℤ◌, ◌*ℤ◌, neg_ℤ, true};
+ghost use Rattle.armcaps_bits.specs.Field.{field_bits, signed_number, unsigned_field};
+ghost use Rattle.armcaps_insn.specs.Immediates.{IsImmediate, bits_for, immediate, immediate_of, is_in_range, offset_bits, offset_in, offset_width, placed, rest_in, steps_in, with_offset};
 
 use crate::instruction_class::Class;
+use armcaps_bits::Span;
 
 // Where an offset lies in its word: in the bits of `mask`, which are `width` bits from `shift` on and below these
 // `low_width` bits from bit 29 on. Its unit is 2 ^ `scale` bytes.
@@ -139,15 +141,11 @@ fn signed(width: u32, bits: u32) -> i64
     requires width { 1 ≤ width }
     requires small { width ≤ 32 }
     requires below { bits < 2 ^ width }
-    ensures value { result ≡ twos_complement width bits }
+    ensures value { result ≡ signed_number width bits }
     ensures low { neg_ℤ (pos (2 ^ 31)) ≤ℤ result }
     ensures high { result ≤ℤ pos (2 ^ 31) }
 {
-    if power(width - 1) <= bits as i64 {
-        bits as i64 - power(width)
-    } else {
-        bits as i64
-    }
+    low_field(width).value(u64::from(bits))
 }
 
 // The bits that stand for a number in two's complement.
@@ -156,13 +154,24 @@ fn to_bits(width: u32, number: i64) -> u32
     requires small { width ≤ 32 }
     requires low { neg_ℤ (pos (2 ^ (width - 1))) ≤ℤ number }
     requires high { number <ℤ pos (2 ^ (width - 1)) }
-    ensures value { result ≡ in_twos_complement width number }
+    ensures value { result ≡ field_bits width number }
     ensures below { result < 2 ^ width }
 {
-    if number < 0 {
-        (number + power(width)) as u32
-    } else {
-        number as u32
+    low_field(width).put(0, number) as u32
+}
+
+// A signed field of `width` bits from bit 0 on.
+fn low_field(width: u32) -> Span
+    requires some { 1 ≤ width }
+    requires small { width ≤ 32 }
+    ensures shift { result.shift ≡ 0 }
+    ensures width { result.width ≡ width }
+    ensures signed { result.signed ≡ true }
+{
+    Span {
+        shift: 0,
+        width,
+        signed: true,
     }
 }
 
@@ -190,7 +199,7 @@ fn power(exponent: u32) -> i64
 fn field_of(shift: u32, width: u32, word: u32) -> u32
     requires shift { shift < 32 }
     requires width { width < 32 }
-    ensures value { result ≡ field shift width word }
+    ensures value { result ≡ unsigned_field shift width word }
     ensures below { result < 2 ^ width }
 {
     word >> shift & ones(width)

@@ -13,6 +13,7 @@ mod tests;
 
 pub use branch::branch_word;
 pub use correction::{FixRefused, correct};
+pub use encodings::NOP;
 pub use instruction::Insn;
 pub use instruction_class::Class;
-pub use laws::{decoding_is_one_to_one, moving_has_one_answer};
+pub use laws::{decoding_is_one_to_one, moving_has_one_answer, words_stay_or_move};

@@ -52,7 +52,7 @@ fn words_are_decoded(rt: HostRuntime) {
         rest: 0xd503_201f,
         offset: None,
     };
-    assert_eq!(rt; Insn::decode(0xd503_201f), nop);
+    assert_eq!(rt; Insn::decode(NOP), nop);
 }
 
 #[test]

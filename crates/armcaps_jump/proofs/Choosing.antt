@@ -7,15 +7,16 @@ use Rattle.std.proofs.lemmas.Bool.{and_parts, cases_Bool, cases_lt}
 use Rattle.std.proofs.lemmas.Bool.Decides.{Decides-int_eq, nat_tests}
 use Rattle.std.proofs.lemmas.List.FromFn.{get_or-map-range_with_len, get_or-range_with_len, length-map-range_with_len, length-range_with_len}
 use Rattle.armcaps_insn.proofs.Moves.{branch_is}
+use Rattle.armcaps_insn.specs.Encodings.{nop}
 use Rattle.armcaps_insn.specs.Immediates.{immediate, is_in_range, with_offset}
 use Rattle.armcaps_insn.specs.Moved.{IsBranch, branch_to}
-use Rattle.armcaps_logic.proofs.Lists.{range_with_len-push}
 use Rattle.armcaps_logic.proofs.Searches.{find_passes}
 use Rattle.armcaps_logic.proofs.Options.{option_cases}
 use Rattle.armcaps_image.specs.Bytes.{byte_of, word_in}
 use Rattle.armcaps_image.specs.Last.{last_that}
 use Rattle.armcaps_image.specs.Places.{as_place, is_aligned, is_within}
-use Rattle.armcaps_image.proofs.Last.{last_that-append, last_that-map, last_that-none}
+use Rattle.armcaps_image.proofs.Last.{last_that-map, last_that-none, last_that-range}
+use Rattle.armcaps_image.proofs.Within.{place_parts}
 use Rattle.armcaps_image.proofs.Words.{word_of_bytes}
 use Rattle.armcaps_jump.specs.declared.jump_entry.JumpEntry.{JumpEntry}
 use Rattle.armcaps_jump.specs.declared.site.Site.{Site}
@@ -65,25 +66,6 @@ none_holds image table count k accepted within =
           ]
     ]
 
--- the last number of a range that passes
-last_that-range : (test : ℕ → Bool) (count number : ℕ) → number < count → test number ≡ true
-    → ((later : ℕ) → number < later → later < count → test later ≡ false)
-    → last_that test (range_with_len 0 count) ≡ Some number
-last_that-range test zero number within here later = absurd (omega arith)
-last_that-range test (suc c) number within here later =
-    let next : suc c ≡ c + 1 = omega arith in
-    let more : range_with_len 0 (suc c) ≡ range_with_len 0 c ++ c ∷ [] =
-    ap (λ n. range_with_len 0 n) next ∙ range_with_len-push 0 c ∙ ap (λ k. range_with_len 0 c ++ k ∷ []) (zero-add c) in
-    ap (last_that test) more ∙ last_that-append test (range_with_len 0 c) (c ∷ []) ∙ elim (cases_lt number c) [
-      | inl less ↦
-          let fails : test c ≡ false = later c less (omega arith) in
-          rw fails (last_that-range test c number less here (λ l a b. later l a (omega arith)))
-      | inr last ↦
-          let same : number ≡ c = omega arith in
-          let passes : test c ≡ true = subst (λ (k : ℕ). test k ≡ true) same here in
-          rw passes (ap (λ (k : ℕ). Some k) (sym same))
-    ]
-
 -- the last site that has a byte, by its entry's number
 pub last_site : (image : List ℕ) (table count number place : ℕ) → number < count
     → has_byte place (site_of image (entry_at image table number)) ≡ true
@@ -101,11 +83,6 @@ pub record IsFine (image : List ℕ) (entry : JumpEntry) : Type 0 where
   pub within : as_place entry.code + 4 ≤ length image
   pub word : (w : ℕ) × (word_of image entry ≡ Some w)
 
-code_parts : (size : ℕ) (code : ℤ) → is_aligned code ≡ true → is_within size code 4 ≡ true
-    → (code ≡ pos (as_place code)) × (as_place code % 4 ≡ 0) × (as_place code + 4 ≤ size)
-code_parts size (pos n) aligned within = (refl, grind (arith, nat_tests, aligned), grind (arith, nat_tests, within))
-code_parts size (negsuc n) aligned within = (let wrong : false ≡ true = within in cc)
-
 pub fine : (image : List ℕ) (entry : JumpEntry) → kind_of image entry ≡ None → IsFine image entry
 fine image entry accepted = elim (cases_Bool (is_aligned entry.code && is_within (length image) entry.code 4)) [
   | inr lacks ↦ (let refused : kind_of image entry ≡ Some 1 = rw lacks refl in absurd (clash _ 1 refused accepted))
@@ -115,7 +92,7 @@ fine image entry accepted = elim (cases_Bool (is_aligned entry.code && is_within
       | inl lacks ↦ (let refused : kind_of image entry ≡ Some 3 = rw (code, key, lacks) refl in absurd (clash _ 3 refused accepted))
       | inr (w, is) ↦
           let halves = and_parts (is_aligned entry.code) (is_within (length image) entry.code 4) code in
-          let parts = code_parts (length image) entry.code halves.0 halves.1 in
+          let parts = place_parts (length image) entry.code 4 halves.0 halves.1 in
           record { code = parts.0; aligned = parts.1; within = parts.2; word = (w, is) }
     ]
   ]
@@ -159,9 +136,9 @@ chosen_word image entry w is = elim (cases_Bool (does_jump image entry)) [
       let branch = branch_to_is (as_place entry.code) entry.target w found in
       (record { jumps = λ other. branch; stays = λ same. absurd (differ entry.branch (is_on image entry) jumps same) }, branch.fits)
   | inr stays ↦
-      let found : Some 0xd503201f ≡ Some w = rw stays at is in
-      let nop : w ≡ 0xd503201f = cc in
-      (record { jumps = λ other. absurd (other (agree entry.branch (is_on image entry) stays)); stays = λ same. nop }, rw nop (lit< tt))
+      let found : Some nop ≡ Some w = rw stays at is in
+      let none : w ≡ nop = cc in
+      (record { jumps = λ other. absurd (other (agree entry.branch (is_on image entry) stays)); stays = λ same. none }, rw none (lit< tt))
 ]
 
 module _ (image : List ℕ) (table count : ℕ) (accepted : first_refusal image table count ≡ None) where

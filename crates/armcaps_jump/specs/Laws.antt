@@ -1,5 +1,6 @@
 -- What a table of jump labels makes of an image, in the words of its subject.
 use Rattle.std.specs.Prelude.{◌≡◌, ◌≢◌, ◌+◌, ◌*◌, ◌<◌, ◌≤◌, ℕ, List, Bool}
+use Rattle.armcaps_insn.specs.Encodings.{nop}
 use Rattle.armcaps_insn.specs.Moved.{IsBranch}
 use Rattle.armcaps_image.specs.Places.{as_place}
 use Rattle.armcaps_jump.specs.declared.jump_entry.JumpEntry.{JumpEntry}
@@ -9,7 +10,7 @@ use Rattle.armcaps_jump.specs.Words.{is_on}
 -- the word that an entry chooses: the branch to its target where key and branch flag differ, NOP where they are the same
 pub record IsChosen (image : List ℕ) (entry : JumpEntry) (word : ℕ) : Type 0 where
   pub jumps : is_on image entry ≢ entry.branch → IsBranch (as_place entry.code) entry.target word
-  pub stays : is_on image entry ≡ entry.branch → word ≡ 0xd503201f
+  pub stays : is_on image entry ≡ entry.branch → word ≡ nop
 
 -- an entry of a table is the last one with its code place
 pub record IsLastThere (image : List ℕ) (table count number : ℕ) : Type 0 where

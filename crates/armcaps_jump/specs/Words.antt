@@ -1,5 +1,6 @@
 -- What the word at an entry's code place becomes.
 use Rattle.std.specs.Prelude.{◌+◌, ◌*◌, ◌/◌, ◌%◌, ◌^◌, ◌≡◌, ◌≤◌, ℕ, Bool, not, List, Option, Some, None, if◌then◌else◌, int_le, pos, unwrap_or}
+use Rattle.armcaps_insn.specs.Encodings.{nop}
 use Rattle.armcaps_insn.specs.Moved.{branch_to}
 use Rattle.armcaps_image.specs.Bytes.{signed_in}
 use Rattle.armcaps_image.specs.Places.{as_place}
@@ -18,7 +19,7 @@ does_jump image entry = if entry.branch then not (is_on image entry) else is_on 
 -- arch/arm64/kernel/jump_label.c, `arch_jump_label_transform_queue`)
 abbrev pub word_of : List ℕ → JumpEntry → Option ℕ
 word_of image entry =
-    if does_jump image entry then branch_to (as_place entry.code) entry.target else Some 0xd503201f
+    if does_jump image entry then branch_to (as_place entry.code) entry.target else Some nop
 
 -- where an entry's word is put, and the word; an entry that is not refused has one
 abbrev pub site_of : List ℕ → JumpEntry → Site

@@ -10,10 +10,7 @@ ghost use Rattle.armcaps_jump.specs.Words.{does_jump, is_on, site_of, word_of};
 use crate::jump_entry::JumpEntry;
 use crate::site::Site;
 use armcaps_image::{place_below, place_within, signed};
-use armcaps_insn::branch_word;
-
-// NOP (Arm ARM DDI 0487, "NOP").
-const NOP: u32 = 0xd503_201f;
+use armcaps_insn::{NOP, branch_word};
 
 // The kinds of refusal, in the order in which they are asked.
 const CODE: u8 = 1;

@@ -1,9 +1,8 @@
 use super::*;
 use armcaps_image::put_word;
+use armcaps_insn::NOP;
 use armcaps_io::MemSink;
 use std::test::Fail;
-
-const NOP: u32 = 0xd503_201f;
 
 // Puts a word at a place, if it lies in the image.
 fn put(image: &mut [u8], place: usize, word: u32) {

@@ -9,7 +9,7 @@ use armcaps_alt::{
 use armcaps_boot::{Boot, Event, Reply};
 use armcaps_caps::CapSet;
 use armcaps_enc::SysReg;
-use armcaps_insn::correct;
+use armcaps_insn::{NOP, correct};
 use armcaps_io::{Failed, MemSink, Sink};
 use armcaps_tables::{CoreRegs, Overrides};
 use byteorder::{ByteOrder, LittleEndian};
@@ -175,8 +175,6 @@ fn lay(rt: &impl Abort, whole: &mut [u8], entry: &Entry, image: &[u8], names: &N
         put(rt, whole, to as usize, word);
     }
 }
-
-const NOP: u32 = 0xd503_201f;
 
 type Words = &'static [(usize, u32)];
 
