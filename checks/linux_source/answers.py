@@ -11,7 +11,7 @@ NAMES = [register.name for register in profile.registers()]
 
 @dataclasses.dataclass
 class Answer:
-    """Fates by core as (kind, cause); words by register; sets of names; notes by field; what is read at each place."""
+    """Fates by core as (kind, cause); words by register; sets of names; notes by field; reads by core and place."""
 
     fates: list
     system: dict
@@ -84,7 +84,8 @@ class Kernel:
                     if int(value, 16) >> bit & 1
                 }
             elif word == "mrs":
-                found.reads[int(tokens[0])] = None if tokens[1] == "undefined" else int(tokens[1], 16)
+                read = None if tokens[2] == "undefined" else int(tokens[2], 16)
+                found.reads[int(tokens[0]), int(tokens[1])] = read
             elif word in ("warning", "died"):
                 found.strange.append(line)
             elif word == "told":
@@ -130,6 +131,15 @@ def of_report(done):
         elif word == "flags":
             found.hwcaps |= set(tokens)
     return found
+
+
+def of_mrs(done, target):
+    """What the program answers for one read: its value, None where the word is undefined, or what it says else."""
+    told = (done.stdout if done.returncode == 0 else done.stderr).decode().strip()
+    name, _, value = told.partition(" ")
+    if done.returncode == 0 and name == ("xzr" if target == 31 else f"x{target}"):
+        return int(value, 16)
+    return None if done.returncode == 9 and told.endswith(" undefined") else told
 
 
 def fate_of_report(tokens):

@@ -25,6 +25,8 @@ SVE_HWCAPS = "Linux tells the hwcaps of SVE only where there is SVE"
 VIEW = "Linux takes an override as every core's value; here it is merged with the core's own, an ignored one too"
 FOLLOWS = "follows from an early core's fate, which differs for one of the other reasons"
 SVE_SME = "SVE at 0 takes SME along here alone"
+AARCH32_READ = "mrs of the AArch32 ID registers and MVFR (CRm 2 and 3), which are left out here"
+NO_ROW = "mrs shows bits that are no row here, at Linux's safe values (TGRAN4_2, TGRAN16_2, TGRAN64_2)"
 DEPENDENTS = "Linux notes more fields, or others, where SVE or SME are at 0"
 
 
@@ -171,8 +173,13 @@ def words(kernel, ours, theirs, users):
                 yield row_class(kernel, field) or told
 
 
-def differences(kernel, machine, ours, theirs, ask):
-    """The class of each difference."""
+def covered(register):
+    """The bits that the rows here have."""
+    return sum(((1 << row.width) - 1) << row.shift for row in profile.fields_of(register))
+
+
+def differences(kernel, machine, ours, theirs, ask, reads=()):
+    """The class of each difference; `reads` has what the program says of some reads, where the fates are the same."""
     found = [f"unknown: {line}" for line in ours.strange + theirs.strange]
     found += fates(kernel, machine, ours, theirs, ask)
     if found or not ours.system or any(fate[0] == "panic" for fate in theirs.fates):
@@ -184,6 +191,8 @@ def differences(kernel, machine, ours, theirs, ask):
     found += words(kernel, ours.user, theirs.user, True)
     found += sets(kernel, ours, theirs)
     found += varying(kernel, machine, ours, theirs)
+    for core, place, told in reads:
+        found += read(kernel, theirs, core, place, told)
     return found + list(places(machine, theirs))
 
 
@@ -253,12 +262,11 @@ def varying(kernel, machine, ours, theirs):
         if register not in kernel.rows:
             yield LACKS
             continue
-        covered = sum(((1 << row.width) - 1) << row.shift for row in rows)
         boot = machine.cores[0][register]
         differs = 0
         for core in machine.cores[1:]:
             differs |= core[register] ^ boot
-        if differs & ~covered:
+        if differs & ~covered(register):
             yield STRICT_BITS
         elif any(differs >> row.shift & ((1 << row.width) - 1) and row_class(kernel, row) for row in rows):
             yield ROWS
@@ -266,12 +274,36 @@ def varying(kernel, machine, ours, theirs):
             yield f"unknown: varies {register} {'here' if register in ours.varies else 'in Linux'} alone"
 
 
+PLACES = {row.crm << 3 | row.op2: row.name for row in profile.registers() if (row.op1, row.crn) == (0, 0)}
+
+
 def places(machine, theirs):
     """What Linux answers at each place, beside the page on mrs: the users' words, 0 at other places with CRm 4 to 7."""
-    registers = {row.crm << 3 | row.op2: row.name for row in profile.registers() if (row.op1, row.crn) == (0, 0)}
     known = {0: machine.cores[0]["midr_el1"], 5: 0x80000000, 6: 0}
     for place in set(range(128)) - set(AARCH32):
-        told = theirs.reads.get(place, 0)
-        expected = theirs.user.get(registers.get(place), 0) if 32 <= place < 64 else known.get(place)
+        told = theirs.reads.get((0, place), 0)
+        expected = theirs.user.get(PLACES.get(place), 0) if 32 <= place < 64 else known.get(place)
         if told != expected:
             yield f"unknown: S3_0_C0_C{place >> 3}_{place & 7} is {told} in Linux and not {expected}"
+
+
+def read(kernel, theirs, core, place, told):
+    """The class of what differs in one read by a program, of a machine whose fates are the same on both sides."""
+    if theirs.fates[core][0] != "up":
+        if told != f"armcaps: mrs: core {core} not admitted":
+            yield f"unknown: mrs on core {core}, which is {theirs.fates[core][0]}: {told}"
+        return
+    expected = theirs.reads.get((core, place), 0)
+    if told == expected:
+        return
+    if place in AARCH32:
+        yield AARCH32_READ if told is None else f"unknown: mrs of S3_0_C0_C{place >> 3}_{place & 7}: {told}"
+    elif place in PLACES and place >> 3 >= 4 and isinstance(told, int) and expected is not None:
+        found = list(words(kernel, {PLACES[place]: told}, {PLACES[place]: expected}, True))
+        rest = (told ^ expected) & ~covered(PLACES[place])
+        if rest:
+            known = sum(((1 << width) - 1) << shift for shift, width, *_ in kernel.rows.get(PLACES[place], []))
+            found.append(f"unknown: mrs of {PLACES[place]}: bits {rest:#x} differ" if rest & ~known else NO_ROW)
+        yield from found
+    else:
+        yield f"unknown: mrs of S3_0_C0_C{place >> 3}_{place & 7}: {told}, in Linux {expected}"

@@ -204,6 +204,19 @@ static void finalise(void)
 #endif
 }
 
+/* What a program on the present core reads at each place that the kernel emulates; nothing where that is 0. */
+static void print_reads(void)
+{
+	for (u32 place = 0; place < 128; place++) {
+		u64 value;
+
+		if (emulate_sys_reg(sys_reg(3, 0, 0, place >> 3, place & 7), &value))
+			printf("mrs %d %u undefined\n", core, place);
+		else if (value)
+			printf("mrs %d %u 0x%llx\n", core, place, (unsigned long long)value);
+	}
+}
+
 static void print_answer(void)
 {
 	for (int i = 0; i < cores; i++)
@@ -220,16 +233,9 @@ static void print_answer(void)
 			printf("cap %u\n", i);
 	printf("hwcap 0x%llx 0x%llx\n", (unsigned long long)elf_hwcap[0], (unsigned long long)elf_hwcap[1]);
 	printf("vl 0x%x\n", kept_lengths);
-	for (u32 place = 0; place < 128; place++) {
-		u32 id = sys_reg(3, 0, 0, place >> 3, place & 7);
-		u64 value;
-
-		core = 0;
-		if (emulate_sys_reg(id, &value))
-			printf("mrs %u undefined\n", place);
-		else if (value)
-			printf("mrs %u 0x%llx\n", place, (unsigned long long)value);
-	}
+	for (core = 0; core < cores; core++)
+		if (!strcmp(state[core], "online"))
+			print_reads();
 }
 
 /* One machine's lines from the input; false at its end. */

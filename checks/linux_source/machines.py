@@ -18,6 +18,9 @@ PARTS = [0xD03, 0xD07, 0xD08, 0xD09, 0xD0B, 0xD0D, 0xD0C, 0xD05, 0xD40, 0xD49]
 MODELS = [0x41 << 24 | 0xF0000 | part << 4 for part in PARTS]
 
 
+PLACES = 128  # of op0 3, op1 0, CRn 0: CRm in the upper four bits, op2 in the lower three
+
+
 class Machine:
     """Cores with their words and vector lengths, a command line, and steps."""
 
@@ -75,6 +78,11 @@ class Machine:
             core = self.draw.choice(early)
             steps += [f"offline {core}"] + ([f"online {core}"] if self.draw.random() < 0.7 else [])
         return steps
+
+    def reads(self, count):
+        """Some reads by a program: the core, the place in the ID space and the register that gets the value."""
+        draw = random.Random(f"reads {self.seed}")
+        return [(draw.randrange(len(self.cores)), draw.randrange(PLACES), draw.randrange(32)) for _ in range(count)]
 
     def until(self, core):
         """The machine with its steps up to a core's coming up."""

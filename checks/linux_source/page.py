@@ -18,8 +18,9 @@ def paragraphs(results):
         unknown = sum(count for name, count in result["classes"].items() if name.startswith("unknown"))
         seen = [count for count in result["wrong"].values() if count]
         yield (
-            f"{result['release']}: {result['machines']:,} random machines; {unknown} differences without a class. "
-            f"{len(seen)} of {len(result['wrong'])} wrong kernels were seen, each within\n{max(seen)} machines.\n"
+            f"{result['release']}: {result['machines']:,} random machines, {result['reads']:,} reads by `armcaps mrs`; "
+            f"{unknown} differences without a class.\n"
+            f"{len(seen)} of {len(result['wrong'])} wrong kernels were seen, each within {max(seen)} machines.\n"
         )
     names = sorted({name for result in results.values() for name in result["classes"]})
     names = [name for name in names if not name.startswith("unknown")]

@@ -99,6 +99,11 @@ class Sites:
     freed: int = 0
     callbacks: collections.Counter = dataclasses.field(default_factory=collections.Counter)
     strange: list = dataclasses.field(default_factory=list)
+    rows: list = dataclasses.field(default_factory=list)
+
+    def table(self):
+        """Each word that differs: its place, ours, Linux's, and the callback whose site it is in."""
+        return "".join(f"{place:#x}\t{ours:#010x}\t{theirs:#010x}\t{name}\n" for place, ours, theirs, name in self.rows)
 
 
 def sites(found, patched, memory):
@@ -125,6 +130,8 @@ def sites(found, patched, memory):
         ours, theirs = word_at(patched, place), word_at(memory, place)
         total.compared += 1
         total.changed += word_at(found.image, place) != theirs
+        if ours != theirs:
+            total.rows.append((place, ours, theirs, called.get(place, "")))
         if ours != theirs and place in called:
             total.callbacks[called[place]] += 1
         elif ours != theirs:

@@ -22,11 +22,12 @@ def replace(check, text):
     PAGE.write_text(parts.sub(lambda _: f"{begin}\n{text}\n{end}", page), encoding="utf-8")
 
 
-def write_real_kernel(results, controls, releases):
-    replace("real-kernel", "\n".join(real_kernel(results, controls, releases)))
+def write_real_kernel(results, of_kernels, releases):
+    replace("real-kernel", "\n".join(real_kernel(results, releases)))
+    replace("real-kernel, elf and jump", "\n".join(paragraph for found in of_kernels for paragraph in files(found)))
 
 
-def real_kernel(results, controls, releases):
+def real_kernel(results, releases):
     """The paragraphs and tables."""
     total = lambda name: f"{sum(result[name] for result in results):,}"  # noqa: E731
     count = lambda name: f"{sum(len(result[name]) for result in results):,}"  # noqa: E731
@@ -44,16 +45,42 @@ def real_kernel(results, controls, releases):
         "  that the original does not give; hwcaps, reads and detected features the same on "
         f"{total('boot same')}; all cores\n  but the first offline and online again on {total('cores back')}.\n"
     )
-    for version, warnings in controls.items():
+    for result in (result for result in results if "warned" in result):
         yield (
-            f"That this check sees: with Linux {version}, the image of a kernel that runs gave {warnings} warnings\n"
-            "when it was booted on Cortex-A72.\n"
+            f"That this check sees: with Linux {result['kernel']}, the image of a kernel that runs gave "
+            f"{result['warned']} warnings\nwhen it was booted on {result['board']}.\n"
         )
     yield from boards(results)
     yield from differences(results)
     yield "The callbacks at whose sites words differ:\n"
     rows = sorted([name, f"{words:,}", reasons.reason_of_callback(name)] for name, words in kept.items())
     yield table(["callback", "words, over all boards", "reason"], rows)
+
+
+def files(found):
+    """What `elf` and `jump` made of one kernel's files."""
+    elf, jump = found["elf"], found["jump"]
+    told = [
+        f"{elf[name]['bytes']:,} bytes, {elf[name]['loaded sections']} loaded sections, format {elf[name]['format']}"
+        for name in ("whole", "light", "bare")
+    ]
+    yield f"Linux {found['kernel']}, **{len(found['strange'])} differences**.\n"
+    yield (
+        f"- `elf` on vmlinux ({told[0]}), on one without debug information\n"
+        f"  ({told[1]}) and on its loaded sections alone\n"
+        f"  ({told[2]}): each to the byte what `patch` makes of the image,\n"
+        "  all that is not loaded as it was; readelf reads the same headers.\n"
+        f"- {elf['words changed']:,} words changed, each in a site of a selected entry ({elf['words of sites']:,} words),\n"
+        f"  in {elf['symbols']:,} symbols; objdump shows {elf['words that objdump shows']:,} of them, and an "
+        "instruction for each."
+    )
+    yield (
+        f"- `jump` on the image with zeros up to `_end` ({jump['padded']:,} bytes): {jump['entries']:,} entries, "
+        f"{jump['keys']:,} keys,\n  {jump['keys on']} of them on as it was built; "
+        f"{jump['kept']:,} of {jump['places']:,} words are kept.\n"
+        f"  With each key switched on in the image objdump shows {jump['branches']:,} words as `b` to the entry's\n"
+        f"  target and the others as NOP; with each second key on, {jump['branches of half']:,}.\n"
+    )
 
 
 def boards(results):

@@ -8,7 +8,7 @@ import subprocess
 import time
 
 LOADED = 0x40200000  # where QEMU puts an Image that asks for the begin of a block of 2 MiB
-WAIT = 300
+WAIT = 900
 WARNING = re.compile(r"WARNING:|BUG:|Call trace|Kernel panic|Oops|Unable to handle")
 
 
@@ -52,6 +52,7 @@ class Boot:
     offline: list
     log: list
     memory: bytes
+    told: str
 
     def warnings(self):
         """The lines of the log that tell of a warning, without their times."""
@@ -133,7 +134,7 @@ def wait_for(guest, serial, mark):
 
 def parsed(told, memory):
     lines = told.replace("\r", "").splitlines()
-    found = Boot((0, 0), {}, [], [], [], memory)
+    found = Boot((0, 0), {}, [], [], [], memory, told)
     for line in lines:
         tokens = line.split()
         if line.startswith("@hwcap"):

@@ -1,6 +1,7 @@
 """What Linux makes of a word of the command line (arch/arm64/kernel/idreg-override.c, in 6.12 kernel/pi/).
 
-The lists of 6.1 and 6.12 are those of Debian's sources; that of 6.6 is not compared with one.
+The lists are those of Debian's sources of 6.1 and 6.12. Debian has no source of 6.6: what these two have in common is
+taken to be so in 6.6 too, and where they differ the tool says so and does not choose.
 """
 
 import dataclasses
@@ -19,7 +20,6 @@ FIELDS = {
 # the fields that later kernels add
 ADDED = {
     "6.1": {},
-    "6.6": {"id_aa64isar2": ["mops"], "id_aa64smfr0": ["smever"]},
     "6.12": {
         "id_aa64isar2": ["mops"],
         "id_aa64smfr0": ["smever"],
@@ -30,7 +30,6 @@ ADDED = {
 ALIASES = ["arm64.nosve", "arm64.nosme", "arm64.nobti", "arm64.nopauth", "arm64.nomte"]
 ADDED_ALIASES = {
     "6.1": {"kvm_arm.mode=protected": "id_aa64mmfr1.vh=0"},
-    "6.6": {"arm64.nomops": None},
     "6.12": {
         "arm64.nomops": None,
         "arm64.nolva": "id_aa64mmfr2.varange=0",
@@ -39,7 +38,7 @@ ADDED_ALIASES = {
 }
 # aliases of every version that armcaps does not have
 OTHER = {"kvm_arm.mode=nvhe": "id_aa64mmfr1.vh=0"}
-VERSIONS = list(ADDED)
+VERSIONS = ["6.1", "6.6", "6.12"]
 WORD = 255
 
 
@@ -108,3 +107,23 @@ class Linux:
         if (register, field, number) == ("id_aa64pfr0", "sve", 0):
             return "leaves SME as it is where SVE is off"
         return None
+
+
+class Between:
+    """A version between two whose sources are known."""
+
+    def __init__(self, version, before, after):
+        self.version, self.sides = version, [Linux(before), Linux(after)]
+
+    def remark(self, word):
+        """Where both make the same else of a word, that; where they differ, what each does."""
+        before, after = (side.remark(word) for side in self.sides)
+        if before == after:
+            return before
+        told = [f"{side.version} {side.remark(word) or 'takes it as armcaps does'}" for side in self.sides]
+        return f"not known to this tool: {'; '.join(told)}"
+
+
+def linux(version):
+    """What is known of a version."""
+    return Linux(version) if version in ADDED else Between(version, *ADDED)

@@ -109,12 +109,16 @@ class CommandLines(unittest.TestCase):
             ("6.12", "arm64.nolva", "takes it as id_aa64mmfr2.varange=0"),
             ("6.12", "arm64.nosve", "leaves SME as it is"),
             ("6.1", "kvm-arm.mode=nvhe", "takes it as id_aa64mmfr1.vh=0"),
+            ("6.6", "id_aa64isar0.aes=1", "knows no field id_aa64isar0.aes"),
+            ("6.6", "id_aa64isar2.mops=0", "not known to this tool: 6.1 knows no field id_aa64isar2.mops"),
+            ("6.6", "arm64.nosve", "6.1 takes it as armcaps does; 6.12 leaves SME as it is"),
+            ("6.6", "id_aa64isar1.apa=10", "6.12 takes one hexadecimal digit"),
         ]:
             with self.subTest(version=version, word=word):
                 status, remark = self.remark(version, word)
                 self.assertEqual(status, 1)
                 self.assertIn(said, remark)
-        for version, word in [("6.1", "arm64.nosve"), ("6.12", "id_aa64pfr0.el0=1"), ("6.6", "id_aa64isar2.mops=0")]:
+        for version, word in [("6.1", "arm64.nosve"), ("6.12", "id_aa64pfr0.el0=1"), ("6.6", "id_aa64pfr1.mte=0")]:
             self.assertEqual(self.remark(version, word), (0, ""))
         self.assertEqual(tool("cmdline-lint", "--linux", "5.4", "x").returncode, 2)
 

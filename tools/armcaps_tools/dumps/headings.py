@@ -27,8 +27,15 @@ BESIDE = re.compile(
 )
 
 
+# a line without one of these is no heading
+PARTS = ("cpu", "core", "processor", "hart", "thread", "target", "[c")
+
+
 def heading(line):
     """The number of the core that a line begins, or None."""
+    lower = line.lower()
+    if not any(part in lower for part in PARTS):
+        return None
     for form in (TARGETS, SELECT, SHORT):
         match = form.match(line.strip())
         if match:

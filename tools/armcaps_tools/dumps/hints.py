@@ -20,12 +20,35 @@ KNOWN = [
     (r"^(?:ID_)?(?:Model name|Architecture|BogoMIPS|Flags):", "is what lscpu prints: it has no ID register"),
 ]
 
+# a register's name with a mark of one half, as _hi, [63:32] or (low)
+HALF = re.compile(
+    r"\b(?:sys_)?(?:midr|mpidr|revidr|id_aa64[a-z]+\d|ctr|dczid)(?:_el[01])?"
+    r"[ _.]?[\[(<]?(?:hi|lo|high|low|upper|lower|h|l|63[:.-]+32|31[:.-]+0)[\])>]?(?![a-z0-9])",
+    re.IGNORECASE,
+)
+JOINED = "write both halves as one number, the high one first, as id_aa64pfr0_el1 0x0000000000112222"
+CLUSTER = re.compile(r"clust(?:er)?|\bcl\d|\bsocket|\bdomain|\bdie\b|\b(?:cpu|core)\s*\d+[.:/]\d", re.IGNORECASE)
+HEXADECIMAL = re.compile(
+    r"\b(?:cpu|core|processor)[\s#:_=.]*(?:0x[0-9a-f]+|[0-9]*[a-f][0-9a-f]*)(?![a-z0-9])", re.IGNORECASE
+)
+
 
 def hint(text):
     """What a text without a whole core is, as far as its form tells, and where to go on; or None."""
     for form, what in KNOWN:
         if re.search(form, text, re.MULTILINE):
             return f"{what}: {ON}"
+    if HALF.search(text):
+        return f"has registers in halves of 32 bits, which are not put together: {JOINED}"
+    return None
+
+
+def of_headings(lines):
+    """What lines that are no heading may be, and how such a heading is to be written; or None."""
+    if any(CLUSTER.search(line) for line in lines):
+        return "where each cluster numbers its cores from 0, number them on, as `core 4` for the next cluster's first"
+    if any(HEXADECIMAL.search(line) for line in lines):
+        return "numbers of cores are decimal, as `core 10` for core 0xa"
     return None
 
 

@@ -3,6 +3,7 @@
 import re
 
 from ..command import Refused
+from .hints import JOINED
 
 # the registers that have 32 bits of their own, which some programs print in eight digits
 NARROW = {"midr_el1", "mpidr_el1", "revidr_el1", "ctr_el0", "dczid_el0"}
@@ -23,7 +24,7 @@ class Numbers:
         if re.fullmatch(r"0[xX][0-9a-fA-F]+", plain):
             base = 16
         elif not re.fullmatch(r"[0-9a-fA-F]+", plain):
-            raise Refused(f"{place}: {written} is no number: a hexadecimal one is 0x and digits")
+            raise Refused(f"{place}: {written} is no number: a hexadecimal one is 0x and digits{halves(plain)}")
         elif plain.strip("0") == "" and (plain == "0" or len(plain) == 18):
             base = 16
             plain = plain if plain == "0" else plain[2:]
@@ -55,6 +56,11 @@ class Numbers:
                 f"{place}: {register} has {plural(length, 'digit')}, and numbers are padded with zeros at "
                 f"{self.padded}: is the line cut, or the upper half of the register not read? All have 16 digits then"
             )
+
+
+def halves(written):
+    """What to do with two halves of 32 bits that something stands between."""
+    return f"; {JOINED}" if re.fullmatch(r"(?:0[xX])?[0-9a-fA-F]{1,8}[:.'](?:0[xX])?[0-9a-fA-F]{8}", written) else ""
 
 
 def plural(count, word):

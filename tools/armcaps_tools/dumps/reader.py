@@ -48,7 +48,9 @@ class Dump:
         told = f"{place}: {name} stands twice in what would be one core, first at {core.places[name]}"
         lines = [f"{count}: {line[:50]}" for count, line in self.skipped[-3:]]
         between = f"; not understood: {'; '.join(lines)}" if lines else ""
-        return f"{told}: each core wants a heading, as a line `core 1`{between}"
+        wanted = hints.of_headings([line for _, line in self.skipped]) or "a line `core 1`"
+        again = "" if core.label is None else f" (core {core.label} had one)"
+        return f"{told}: each core wants a heading of its own{again}: {wanted}{between}"
 
     def read(self, data):
         """Reads the bytes of the dump."""

@@ -5,6 +5,7 @@ import re
 
 from .. import profile
 from ..command import Refused
+from . import hints
 from .numbers import HEXADECIMAL
 
 REGISTER = re.compile(r"(?<![\w.])(?:sys_)?([a-z]\w*)(?![\w.])", re.IGNORECASE)
@@ -31,6 +32,8 @@ def names():
 
 
 NAMES = names()
+# a line without one of these names no register
+PARTS = ("idr", "id_aa64", "ctr", "dczid", "sve_vl", "s3_", "spr:", "mrs")
 
 
 @dataclasses.dataclass
@@ -54,6 +57,9 @@ def generic_mrs(match):
 
 def registers_in(line):
     """The registers that a line names, and what stands before the first of them."""
+    lower = line.lower()
+    if not any(part in lower for part in PARTS):
+        return [], line
     line = MRS.sub(generic_mrs, SPR.sub(generic, line))
     matches = [match for match in REGISTER.finditer(line) if match.group(1).lower() in NAMES]
     found = []
@@ -80,9 +86,10 @@ def second_column(behind, word, place, name):
         if same(token, word):
             repeated = True
             continue
+        halves = f"; of halves, {hints.JOINED}" if word < 1 << 32 and len(token) in (8, 10) else ""
         raise Refused(
             f"{place}: {token} stands behind the number of {name}, {word:#x}, and is not taken: "
-            "which one is its number? Write the whole number in one word, and `#` before a remark"
+            f"which one is its number? Write the whole number in one word, and `#` before a remark{halves}"
         )
     return repeated
 

@@ -34,7 +34,8 @@ def decoded(data, name):
 
 
 def cut(count, raw):
-    plain = ESCAPES.sub("", raw).replace("\b", "").rstrip("\r\t ")
+    plain = ESCAPES.sub("", raw) if "\x1b" in raw else raw
+    plain = plain.replace("\b", "").rstrip("\r\t ")
     stamp = STAMP.match(plain)
     if stamp.end() == len(plain):
         return Line(count, plain)
