@@ -2,3 +2,4 @@
 pub mod Ranges
 pub mod Hexadecimal
 pub mod Searching
+pub mod Extending

@@ -1,5 +1,6 @@
 -- What the contracts of this crate cite.
 pub mod Settled
+pub mod Extending
 pub mod Texts
 pub mod Lines
 pub mod Report

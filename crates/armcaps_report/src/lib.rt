@@ -14,6 +14,7 @@ mod reporting;
 mod settled;
 #[cfg(test)]
 mod tests;
+mod text;
 mod varying;
 
 pub use causes::push_cause;
@@ -21,3 +22,4 @@ pub use group::Group;
 pub use registers::push_register;
 pub use reporting::report;
 pub use settled::has_report;
+pub use text::{NoRoom, Text, push_after, push_between, push_number};

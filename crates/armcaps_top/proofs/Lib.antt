@@ -11,7 +11,7 @@ pub mod Limits
 pub mod Outputs
 pub mod Performing
 pub mod Promising
-pub mod ShortNames
+pub mod ShortLines
 pub mod SmallNumbers
 pub mod Steps
 pub mod Tallies

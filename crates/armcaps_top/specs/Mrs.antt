@@ -33,7 +33,7 @@ read_output core word (Ok read) = Ok (read_line read)
 read_output core word (Err refused) = Err (read_refused_of core word refused)
 
 -- the eight hexadecimal digits of a word
-abbrev pub eight_digits : ℕ → List ℕ
+unfoldable pub eight_digits : ℕ → List ℕ
 eight_digits word = map (λ place. digit_char (word / 16 ^ place % 16)) (7 ∷ 6 ∷ 5 ∷ 4 ∷ 3 ∷ 2 ∷ 1 ∷ 0 ∷ [])
 
 -- why nothing is read, as `core 3 not admitted` or `word 0xd5380100 undefined`

@@ -1,0 +1,6 @@
+use Rattle.armcaps_top.specs.Patch.{entry_text}
+use Rattle.armcaps_top.proofs.telling.push_not_patched.Goals as goal
+
+pub returns : goal.returns
+unfolding entry_text
+returns g c = rw (c.number.ensures, c.word.ensures.word) at c.push_kind.ensures
