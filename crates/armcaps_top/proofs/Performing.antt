@@ -1,5 +1,5 @@
 -- From what is made of an answer to what a command does.
-use Rattle.std.proofs.Common.{◌≡◌, ℕ, ◌+◌, ◌-◌, ◌≤◌, Bool, true, false, cond, nat_lt, List, [], ◌∷◌, ◌++◌, length, drop, Option, Some, None, refl, sym, ap, subst, ◌∙◌, arith}
+use Rattle.std.proofs.Common.{◌≡◌, ◌≢◌, ℕ, ◌+◌, ◌-◌, ◌≤◌, Bool, true, false, cond, nat_lt, List, [], ◌∷◌, ◌++◌, length, drop, Option, Some, None, refl, sym, ap, subst, ◌∙◌, arith}
 use Rattle.std.specs.Prelude.{Result, Ok, Err, IfSome, unwrap_or}
 use Rattle.std.proofs.lemmas.Bool.Decides.{nat_tests}
 use Rattle.armcaps_boot.specs.World.{World}
@@ -203,6 +203,25 @@ performed command input out bytes slice machines ending given read same within e
       no_machine = λ fault. absurd (came.read fault);
     }
 
+-- a command of whose input nothing is known
+nothing_read : (command : Command) (input out : Change) (machines : List World) (ending : Ending) → EndsSo (Some command) (answer_of command (unwrap_or input.old [])) input out ending
+    → ending ≢ Done → (ending ≢ ReadFault → ending ≢ Memory → ⊥) → machines ≡ [] → out.new ≡ out.old
+    → ((limit : ℕ) → ending ≡ NoOutput (Refused (TooLong limit)) → GivesCount input.old input.new (limit + 1))
+    → GivesAtMost input.old input.new (most_read (Some command)) → (reads_input (Some command) ≡ false → Keeps input.old input.new)
+    → Performs command input out machines ending
+nothing_read command input out machines ending reason failed either none same one_more at_most unread = record {
+  bytes = unwrap_or input.old [];
+  told_bytes = λ reads. told_or input.old;
+  reason = reason;
+  safe = λ done. absurd (failed done);
+  too_long = one_more;
+  silent = λ done fault. subst (λ (b : Option (List ℕ)). Keeps out.old b) (sym same) (keeps out.old);
+  unread = unread;
+  read_at_most = at_most;
+  machines_are = λ fault memory. absurd (either fault memory);
+  no_machine = λ fault. none;
+}
+
 -- a command whose input was not read whole
 pub not_performed : (command : Command) (input out : Change) (machines : List World) (ending : Ending) → machines ≡ [] → out.new ≡ out.old → IsNotRead command input ending
     → ((limit : ℕ) → ending ≡ NoOutput (Refused (TooLong limit)) → GivesCount input.old input.new (limit + 1))
@@ -210,30 +229,10 @@ pub not_performed : (command : Command) (input out : Change) (machines : List Wo
     → Performs command input out machines ending
 not_performed command input out machines Done none same is one_more at_most unread = absurd is
 not_performed command input out machines WriteFault none same is one_more at_most unread = absurd is
-not_performed command input out machines ReadFault none same is one_more at_most unread = record {
-  bytes = unwrap_or input.old [];
-  told_bytes = λ reads. told_or input.old;
-  reason = is;
-  safe = λ e. absurd (let no : ⊥ = cc in no);
-  too_long = one_more;
-  silent = λ done fault. subst (λ (b : Option (List ℕ)). Keeps out.old b) (sym same) (keeps out.old);
-  unread = unread;
-  read_at_most = at_most;
-  machines_are = λ fault memory. absurd (fault refl);
-  no_machine = λ fault. none;
-}
-not_performed command input out machines Memory none same is one_more at_most unread = record {
-  bytes = unwrap_or input.old [];
-  told_bytes = λ reads. told_or input.old;
-  reason = tt;
-  safe = λ e. absurd (let no : ⊥ = cc in no);
-  too_long = one_more;
-  silent = λ done fault. subst (λ (b : Option (List ℕ)). Keeps out.old b) (sym same) (keeps out.old);
-  unread = unread;
-  read_at_most = at_most;
-  machines_are = λ fault memory. absurd (memory refl);
-  no_machine = λ fault. none;
-}
+not_performed command input out machines ReadFault none same is one_more at_most unread =
+    nothing_read command input out machines ReadFault is (λ done. cc) (λ fault memory. fault refl) none same one_more at_most unread
+not_performed command input out machines Memory none same is one_more at_most unread =
+    nothing_read command input out machines Memory tt (λ done. cc) (λ fault memory. memory refl) none same one_more at_most unread
 not_performed command input out machines (NoOutput reason) none same is one_more at_most unread = record {
   bytes = is.bytes;
   told_bytes = is.told_bytes;

@@ -1,5 +1,8 @@
 -- What the parts of a run promise each other.
-use Rattle.std.specs.Prelude.{◌≡◌, ◌≢◌, ◌+◌, ℕ, ◌≤◌, true, false, List, [], ◌∷◌, ◌++◌, Option, Some, None, Result, Ok, Err, IfSome, IfOk, IfErr}
+use Rattle.std.specs.Prelude.{◌≡◌, ◌≢◌, ◌+◌, ◌*◌, ◌^◌, ℕ, ◌≤◌, true, false, List, [], length, ◌∷◌, ◌++◌, Option, Some, None, Result, Ok, Err, IfSome, IfOk, IfErr}
+use Rattle.armcaps_alt.specs.Entries.{Features, selected_of}
+use Rattle.armcaps_alt.specs.Refusals.{first_refusal}
+use Rattle.armcaps_alt.specs.declared.table_place.Layout.{Layout}
 use Rattle.armcaps_boot.specs.declared.halt.Halt.{Halt}
 use Rattle.armcaps_board.specs.Steps.{history}
 use Rattle.armcaps_boot.specs.Admission.{halt_of, steps_made}
@@ -9,9 +12,12 @@ use Rattle.armcaps_boot.specs.Outcome.{IsSafe}
 use Rattle.armcaps_boot.specs.World.{World}
 use Rattle.armcaps_io.specs.Causes.{Rose}
 use Rattle.armcaps_io.specs.Streams.{GivesAtMost, GivesCount, Keeps}
+use Rattle.armcaps_patch.specs.Counting.{words_of_sites}
 use Rattle.armcaps_report.specs.Settled.{AreSettled}
 use Rattle.armcaps_text.specs.Document.{Reading}
+use Rattle.armcaps_text.specs.Sound.{IsSound}
 use Rattle.armcaps_top.specs.Answer.{Answer, answer_of, of_document, unless_stopped}
+use Rattle.armcaps_top.specs.Demo.{words_covered}
 use Rattle.armcaps_top.specs.Document.{document}
 use Rattle.armcaps_top.specs.Run.{AreBytesOf, AreMachinesOf, AreSafe, Change, EndsSo, IsReadWhole, ReadFails, most_read, reads_input}
 use Rattle.armcaps_top.specs.declared.commands.Command.{Command}
@@ -124,6 +130,19 @@ pub record Comes (answer : Answer) (machines : List World) (made : Result (List 
 abbrev pub as_bytes : {A : Type 0} → (A → List ℕ) → Result A Ending → Result (List ℕ) Ending
 as_bytes bytes (Ok made) = Ok (bytes made)
 as_bytes bytes (Err ending) = Err ending
+
+-- a sound reading whose machine is brought up where there is none
+pub record IsReady (reading : Reading) (machines : List World) : Type 0 where
+  pub sound : IsSound reading
+  pub none : machines ≡ []
+
+-- what is counted of an image: its table lies within it, no entry of it is refused, and no two selected sites overlap
+pub record IsCountable (features : Features) (image : List ℕ) (layout : Layout) : Type 0 where
+  pub size : length image ≤ 2 ^ 29
+  pub table : layout.table + 12 * layout.count ≤ length image
+  pub accepted : first_refusal features image layout ≡ None
+  pub apart : let selected = selected_of features image layout in
+      words_covered image selected ≡ words_of_sites selected
 
 -- what is made of a reading under a query, whose document may have any image
 abbrev pub Answers : Command → Reading → List World → Result (List ℕ) Ending → Type 0

@@ -3,9 +3,8 @@
 ghost use Rattle.std.specs.Prelude.{◌≡◌, ◌≤◌, [], length, string_bytes};
 ghost use Rattle.armcaps_text.specs.Document.{reading_of};
 ghost use Rattle.armcaps_text.specs.Formats.{format_of};
-ghost use Rattle.armcaps_text.specs.Sound.{IsSound};
 ghost use Rattle.armcaps_top.specs.Answer.{answer_of};
-ghost use Rattle.armcaps_top.specs.Inside.{Answers, Comes, as_bytes};
+ghost use Rattle.armcaps_top.specs.Inside.{Answers, Comes, IsReady, as_bytes};
 ghost use Rattle.armcaps_top.specs.declared.commands.Command.TheVariants as Command;
 
 use crate::commands::Query;
@@ -25,8 +24,7 @@ fn output(
     machine: Machine,
     machines: &mut Vec<Boot>,
 ) -> Result<String, Ending>
-    requires sound { IsSound (reading_of machine) }
-    requires none { machines.old.items ≡ [] }
+    requires { IsReady (reading_of machine) machines.old.items }
     ensures { Answers (Command.Ask query) (reading_of machine) machines.new.items (as_bytes string_bytes result) }
 {
     match query {

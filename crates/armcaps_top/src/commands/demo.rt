@@ -2,18 +2,16 @@
 
 ghost use Rattle.std.specs.Prelude.{◌≡◌, ◌+◌, ◌*◌, ◌≤◌, ◌^◌, [], cond, None, true, IfOk, length, string_bytes};
 ghost use Rattle.armcaps_image.specs.Bytes.{word_in};
-ghost use Rattle.armcaps_alt.specs.Entries.{Features, selected_of};
+ghost use Rattle.armcaps_alt.specs.Entries.{Features};
 ghost use Rattle.armcaps_alt.specs.Patched.{patched_image};
-ghost use Rattle.armcaps_alt.specs.Refusals.{first_refusal};
 ghost use Rattle.armcaps_alt.specs.declared.table_place.Layout.{Layout as Place};
 ghost use Rattle.armcaps_boot.specs.Findings.{findings_of};
 ghost use Rattle.armcaps_boot.specs.World.{state_at};
-ghost use Rattle.armcaps_patch.specs.Counting.{words_of_sites};
 ghost use Rattle.armcaps_patch.specs.Features.{features_of};
 ghost use Rattle.armcaps_patch.specs.Kept.{StandsFor};
 ghost use Rattle.armcaps_top.specs.Answer.{answer_of};
-ghost use Rattle.armcaps_top.specs.Demo.{cores_that, counts_of, demo_lines, is_changed, stands_parked, stands_admitted, sum_of_words, words_changed, words_covered};
-ghost use Rattle.armcaps_top.specs.Inside.{Comes, as_bytes};
+ghost use Rattle.armcaps_top.specs.Demo.{cores_that, counts_of, demo_lines, is_changed, stands_parked, stands_admitted, sum_of_words, words_changed};
+ghost use Rattle.armcaps_top.specs.Inside.{Comes, IsCountable, as_bytes};
 
 use crate::bringing::{bring, only};
 use crate::commands::Command;
@@ -120,7 +118,7 @@ fn count_cores(boot: &Boot) -> (u32, u32)
     (admitted, parked)
 }
 
-// The plan of an image, no entry of which is refused.
+// The plan of an image.
 fn plan_of(
     alloc: Global,
     boot: &Boot,
@@ -128,10 +126,8 @@ fn plan_of(
     image: &[u8],
     layout: Layout,
 ) -> Result<Plan, AllocError>
-    requires size { length image.now ≤ 2 ^ 29 }
-    requires table { layout.table + 12 * layout.count ≤ length image.now }
     requires finalised { boot.now.final ≡ true }
-    requires accepted { first_refusal (features_of boot.now names.now) image.now layout ≡ None }
+    requires countable { IsCountable (features_of boot.now names.now) image.now layout }
     ensures { IfOk result (λ plan. StandsFor plan (features_of boot.now names.now) image.now layout) }
 {
     match Plan::check(alloc, image, layout, names, boot) {
@@ -141,7 +137,7 @@ fn plan_of(
     }
 }
 
-// What is counted of a machine and its image, no entry of which is refused, and no two selected sites of which overlap.
+// What is counted of a machine and its image.
 #[tactic(auto, unfolding(crate::specs::Demo::counts_of))]
 fn counts_of(
     alloc: Global,
@@ -150,12 +146,8 @@ fn counts_of(
     image: &[u8],
     layout: Layout,
 ) -> Result<Counts, AllocError>
-    requires size { length image.now ≤ 2 ^ 29 }
-    requires table { layout.table + 12 * layout.count ≤ length image.now }
     requires finalised { boot.now.final ≡ true }
-    requires accepted { first_refusal (features_of boot.now names.now) image.now layout ≡ None }
-    requires apart { let entries = selected_of (features_of boot.now names.now) image.now layout in
-        words_covered image.now entries ≡ words_of_sites entries }
+    requires countable { IsCountable (features_of boot.now names.now) image.now layout }
     ensures { IfOk result (λ counts. counts ≡ counts_of (findings_of boot.now)
         (features_of boot.now names.now) image.now layout) }
 {
@@ -194,7 +186,7 @@ fn demo_lines(alloc: Global, seed: u32, cores: u32, counts: &Counts) -> Result<S
     Ok(text)
 }
 
-// What is written of a machine that was brought up and its image, no entry of which is refused.
+// What is written of a machine that was brought up and its image.
 fn demo_text(
     alloc: Global,
     seed: u32,
@@ -204,12 +196,8 @@ fn demo_text(
     image: &[u8],
     layout: Layout,
 ) -> Result<String, AllocError>
-    requires size { length image.now ≤ 2 ^ 29 }
-    requires table { layout.table + 12 * layout.count ≤ length image.now }
     requires finalised { boot.now.final ≡ true }
-    requires accepted { first_refusal (features_of boot.now names.now) image.now layout ≡ None }
-    requires apart { let entries = selected_of (features_of boot.now names.now) image.now layout in
-        words_covered image.now entries ≡ words_of_sites entries }
+    requires countable { IsCountable (features_of boot.now names.now) image.now layout }
     ensures { IfOk result (λ text. string_bytes text
         ≡ demo_lines seed cores (counts_of (findings_of boot.now) (features_of boot.now names.now) image.now layout)) }
 {

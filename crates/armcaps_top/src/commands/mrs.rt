@@ -3,8 +3,7 @@
 ghost use Rattle.std.specs.Prelude.{◌≡◌, ◌++◌, [], IfOk, OnOk, string_bytes};
 ghost use Rattle.armcaps_mrs.specs.declared.read.UserRead.{UserRead};
 ghost use Rattle.armcaps_text.specs.Document.{reading_of};
-ghost use Rattle.armcaps_text.specs.Sound.{IsSound};
-ghost use Rattle.armcaps_top.specs.Inside.{Answers, as_bytes};
+ghost use Rattle.armcaps_top.specs.Inside.{Answers, IsReady, as_bytes};
 ghost use Rattle.armcaps_top.specs.Mrs.{general_name, read_line, read_refused_of, value_text};
 ghost use Rattle.armcaps_top.specs.declared.commands.Command.TheVariants as Command;
 ghost use Rattle.armcaps_top.specs.declared.commands.Query.TheVariants as Query;
@@ -74,8 +73,7 @@ pub fn read_output(
     machine: Machine,
     machines: &mut Vec<Boot>,
 ) -> Result<String, Ending>
-    requires sound { IsSound (reading_of machine) }
-    requires none { machines.old.items ≡ [] }
+    requires { IsReady (reading_of machine) machines.old.items }
     ensures { Answers (Command.Ask (Query.Mrs core word)) (reading_of machine) machines.new.items
         (as_bytes string_bytes result) }
 {

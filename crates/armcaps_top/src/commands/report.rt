@@ -1,9 +1,8 @@
 //! `report`: the report of the machine.
 
-ghost use Rattle.std.specs.Prelude.{◌≡◌, [], string_bytes};
+ghost use Rattle.std.specs.Prelude.{string_bytes};
 ghost use Rattle.armcaps_text.specs.Document.{reading_of};
-ghost use Rattle.armcaps_text.specs.Sound.{IsSound};
-ghost use Rattle.armcaps_top.specs.Inside.{Answers, as_bytes};
+ghost use Rattle.armcaps_top.specs.Inside.{Answers, IsReady, as_bytes};
 ghost use Rattle.armcaps_top.specs.declared.commands.Command.TheVariants as Command;
 ghost use Rattle.armcaps_top.specs.declared.commands.Query.TheVariants as Query;
 
@@ -20,8 +19,7 @@ pub fn report_output(
     machine: Machine,
     machines: &mut Vec<Boot>,
 ) -> Result<String, Ending>
-    requires sound { IsSound (reading_of machine) }
-    requires none { machines.old.items ≡ [] }
+    requires { IsReady (reading_of machine) machines.old.items }
     ensures { Answers (Command.Ask Query.Report) (reading_of machine) machines.new.items
         (as_bytes string_bytes result) }
 {

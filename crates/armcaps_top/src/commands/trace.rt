@@ -11,8 +11,7 @@ ghost use Rattle.armcaps_boot.specs.After.{IsAfter};
 ghost use Rattle.armcaps_board.specs.declared.event.Event.TheVariants as Event;
 ghost use Rattle.armcaps_top.specs.Bringing.{IsAt, steps_before};
 ghost use Rattle.armcaps_text.specs.Document.{reading_of};
-ghost use Rattle.armcaps_text.specs.Sound.{IsSound};
-ghost use Rattle.armcaps_top.specs.Inside.{Answers, as_bytes};
+ghost use Rattle.armcaps_top.specs.Inside.{Answers, IsReady, as_bytes};
 ghost use Rattle.armcaps_top.specs.declared.commands.Command.TheVariants as Command;
 ghost use Rattle.armcaps_top.specs.Trace.{changed_line, changed_lines, reply_text, step_line, step_lines, step_text, trace_of};
 ghost use Rattle.armcaps_top.specs.declared.commands.Query.TheVariants as Query;
@@ -155,8 +154,7 @@ pub fn trace_output(
     machine: Machine,
     machines: &mut Vec<Boot>,
 ) -> Result<String, Ending>
-    requires sound { IsSound (reading_of machine) }
-    requires none { machines.old.items ≡ [] }
+    requires { IsReady (reading_of machine) machines.old.items }
     ensures { Answers (Command.Ask Query.Trace) (reading_of machine) machines.new.items (as_bytes string_bytes result) }
 {
     let Ok((mut boot, events, _)) = begin(alloc, machine) else {

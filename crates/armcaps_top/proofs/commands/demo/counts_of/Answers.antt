@@ -16,7 +16,7 @@ returns c =
     let features = features_of c.args.boot.now c.args.names.now in
     let patched : c.deref.result.now ≡ patched_image features c.args.image.now c.args.layout =
     c.deref.ensures.value ∙ c.in_ok-new.ensures features c.args.layout c.in_ok-plan.ensures in
-    let covered = c.count_words.ensures features c.args.image.now c.args.layout c.in_ok-plan.ensures ∙ sym c.requires.apart in
+    let covered = c.count_words.ensures features c.args.image.now c.args.layout c.in_ok-plan.ensures ∙ sym c.requires.countable.apart in
     let selected = c.count_entries.ensures features c.args.image.now c.args.layout c.in_ok-plan.ensures in
     let changed = c.compare-changed.ensures.changed ∙ ap (words_changed c.args.image.now) patched in
     let sum = c.compare-changed.ensures.sum ∙ ap sum_of_words patched in

@@ -1,4 +1,4 @@
-use Rattle.std.proofs.Common.{◌≡◌, Ok, string_bytes, subst, ◌∙◌}
+use Rattle.std.proofs.Common.{◌≡◌, Ok, string_bytes, subst, rules, ◌∙◌}
 use Rattle.armcaps_alt.specs.Names.{NameLists}
 use Rattle.armcaps_boot.specs.Findings.{findings_of}
 use Rattle.armcaps_patch.specs.Features.{features_of}
@@ -13,10 +13,14 @@ use Rattle.armcaps_top.proofs.GeneratedSites.{generated_apart}
 use Rattle.armcaps_top.proofs.Performing.{came, only_through}
 use Rattle.armcaps_top.proofs.commands.demo.demo.Goals as goal
 
-pub demo_text-requires-clause-apart : goal.demo_text-requires-clause-apart
-demo_text-requires-clause-apart c =
-    generated_apart c.args.seed c.args.cores (reading_of c.in-Ok.machine) c.deref.result.now (features_of c.only.result.now c.in_ok-names.names)
-    c.in-Ok.ensures.reading (c.deref.ensures.value ∙ c.in-Ok.ensures.image)
+pub demo_text-requires-clause-countable : goal.demo_text-requires-clause-countable
+demo_text-requires-clause-countable c = record {
+  size = search rules;
+  table = search rules;
+  accepted = search rules;
+  apart = generated_apart c.args.seed c.args.cores (reading_of c.in-Ok.machine) c.deref.result.now (features_of c.only.result.now c.in_ok-names.names)
+      c.in-Ok.ensures.reading (c.deref.ensures.value ∙ c.in-Ok.ensures.image);
+}
 
 pub returns-in-Ok-demo_text : goal.returns-in-Ok-demo_text
 returns-in-Ok-demo_text c =
