@@ -6,6 +6,7 @@ pub mod Patch
 pub mod Jump
 pub mod Demo
 pub mod Answer
+pub mod Laws
 pub mod Ending
 pub mod Telling
 pub mod Run

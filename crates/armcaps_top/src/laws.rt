@@ -1,4 +1,5 @@
-//! What the definitions say of every document. The function has nothing to do when it runs: its contract is the law.
+//! What the definitions say of every document. These functions have nothing to do when they run: each one's contract is
+//! the law.
 
 ghost use Rattle.std.specs.Prelude.{◌≡◌, ◌≢◌, ◌≤◌, ℕ, ℤ, List, Some, Ok, slice_get};
 ghost use Rattle.armcaps_rule.specs.Rule.{fold_of, merged};
@@ -14,8 +15,11 @@ ghost use Rattle.armcaps_board.specs.Board.{core_at};
 ghost use Rattle.armcaps_text.specs.Sound.{IsSound};
 ghost use Rattle.armcaps_top.specs.Demo.{generated_document};
 ghost use Rattle.armcaps_top.specs.Document.{Document, document};
-ghost use Rattle.armcaps_top.specs.Answer.{admitted_in};
+ghost use Rattle.armcaps_top.specs.Answer.{admitted_in, output_in};
+ghost use Rattle.armcaps_top.specs.Laws.{IsLabelled};
+ghost use Rattle.armcaps_top.specs.declared.commands.Command.TheVariants as Command;
 
+use armcaps_jump::the_last_entry_chooses;
 use armcaps_text::laws::{generated_machines_are_sound, readings_are_sound};
 
 /// Each document that is an input is sound, and so is each that `demo` works on. Of every sound document and
@@ -43,4 +47,14 @@ pub fn document_fields_hold()
 {
     readings_are_sound();
     generated_machines_are_sound();
+}
+
+/// Where `jump` writes something of a document, that is as long as the document's patched image; the word at each code
+/// place is the branch to its target where key and branch flag of the last entry there differ, and else NOP, entries and
+/// keys being those of the patched image; and every other byte is the patched image's.
+pub fn labels_choose_words()
+    ensures { (found : Document) (table count : ℕ) (text : List ℕ)
+        → output_in (Command.Jump table count) found ≡ Ok text → IsLabelled found table count text }
+{
+    the_last_entry_chooses();
 }
