@@ -8,18 +8,37 @@ from common import TOP, tool
 
 
 class Statuses(unittest.TestCase):
-    """The kinds that docs/STATUSES.md tells of are those of the definitions, in their order."""
+    """The tables of kinds in docs/STATUSES.md are those of the definitions, each in its order."""
+
+    def named(self, specs):
+        """The words of kinds that have a number each."""
+        lines = (TOP / "crates" / specs).read_text(encoding="utf-8")
+        words = dict(re.findall(r'^kind_word (\S+) = codes "([a-z-]+)"', lines, re.MULTILINE))
+        numbers = re.findall(r"^kind_number (\S+) = (\d+)", lines, re.MULTILINE)
+        self.assertEqual(len(words), len(numbers))
+        self.assertEqual([number for _, number in numbers], [str(count + 1) for count in range(len(numbers))])
+        return [words[kind] for kind, _ in numbers]
+
+    def counted(self, specs, name):
+        """The words of kinds that stand in their order in a definition."""
+        lines = (TOP / "crates" / specs).read_text(encoding="utf-8")
+        equation = re.search(rf"^{name} =.*?(?=^$|^--|\Z)", lines, re.MULTILINE | re.DOTALL)
+        return re.findall(r'codes "([a-z-]+)"', equation.group())
 
     def test_kinds(self):
-        defined = []
-        for specs in ["armcaps_text/specs/Refusal.antt", "armcaps_alt/specs/Refusals.antt"]:
-            lines = (TOP / "crates" / specs).read_text(encoding="utf-8")
-            words = dict(re.findall(r'^kind_word (\S+) = codes "([a-z-]+)"', lines, re.MULTILINE))
-            numbers = re.findall(r"^kind_number (\S+) = (\d+)", lines, re.MULTILINE)
-            self.assertEqual(len(words), len(numbers))
-            defined += [(number, words[kind]) for kind, number in numbers]
-        page = (TOP / "docs/STATUSES.md").read_text(encoding="utf-8")
-        self.assertEqual(re.findall(r"^\| (\d+) \| `([a-z-]+)` \|", page, re.MULTILINE), defined)
+        defined = [self.named("armcaps_text/specs/Refusal.antt"), self.named("armcaps_alt/specs/Refusals.antt")]
+        defined += [self.counted("armcaps_top/specs/Jump.antt", "label_kind_word kind")]
+        if (TOP / "crates/armcaps_top/specs/Elf.antt").exists():
+            defined += [self.counted("armcaps_top/specs/Elf.antt", "elf_words")]
+        told = []
+        for number, word in re.findall(
+            r"^\| (\d+) \| `([a-z-]+)` \|", (TOP / "docs/STATUSES.md").read_text(encoding="utf-8"), re.MULTILINE
+        ):
+            if number == "1":
+                told.append([])
+            told[-1].append(word)
+            self.assertEqual(int(number), len(told[-1]))
+        self.assertEqual(sorted(told), sorted(defined))
 
 
 class Pages(unittest.TestCase):
