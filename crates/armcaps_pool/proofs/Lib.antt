@@ -3,4 +3,10 @@ pub mod Folds
 pub mod Baselines
 pub mod Machines
 pub mod Limiting
+pub mod Bytes
+pub mod Marking
+pub mod Rightful
+pub mod Judged
+pub mod Covering
+pub mod Verdicts
 mod Worked

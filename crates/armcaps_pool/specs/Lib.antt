@@ -1,2 +1,5 @@
 -- What the contracts of this crate cite.
 pub mod Baselines
+pub mod Audits
+pub mod Judging
+pub mod Rightful

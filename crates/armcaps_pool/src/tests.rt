@@ -3,6 +3,8 @@
 ghost use Rattle.std.specs.Prelude.{◌≡◌, IfOk, length, vec_len};
 
 use super::*;
+use armcaps_alt::{Conduit, Names};
+use armcaps_caps::CapSet;
 use armcaps_enc::SysReg;
 use armcaps_sanit::System;
 use armcaps_tables::{CoreRegs, Overrides, count};
@@ -87,5 +89,52 @@ fn as_many_as_there_can_be(rt: HostRuntime) -> Result<(), Fail> {
     let isar0 = SysReg::IdAa64Isar0El1;
     assert_eq!(rt; told(&rt, rt.alloc(), isar0, &words, 1)?, (0x11020, 0, 63));
     assert_eq!(rt; told(&rt, rt.alloc(), isar0, &words, 0)?, (0x11020, 2, 0));
+    Ok(())
+}
+
+// No number and no callback is named.
+fn nameless(alloc: Global) -> Names {
+    Names::new(Vec::new(alloc), Vec::new(alloc), Conduit::None)
+}
+
+// The verdict on an image beside its original, where no table says anything.
+fn verdict(
+    rt: &impl Abort,
+    alloc: Global,
+    image: &[u8],
+    patched: &[u8],
+) -> Result<Verdict, AllocError> {
+    assert!(rt; image.len() == patched.len() && image.len() <= 1 << 29);
+    audit(
+        alloc,
+        image,
+        patched,
+        0,
+        0,
+        &nameless(alloc),
+        &CapSet::empty(),
+        0,
+    )
+}
+
+// Images of 0 to 300 bytes without a table: the original is right, and each changed byte is told, the last too.
+#[test]
+fn images_without_entries(rt: HostRuntime) -> Result<(), Fail> {
+    let alloc = rt.alloc();
+    for size in [0usize, 1, 2, 3, 4, 5, 6, 7, 8, 255, 256, 257, 259, 260, 300] {
+        let image = Vec::from_elem(alloc, 0x5au8, size)?;
+        assert_eq!(rt; verdict(&rt, alloc, &image, &image)?, Verdict::Yes);
+        for place in 0..size {
+            let mut changed = Vec::from_slice(alloc, &image)?;
+            assert!(rt; place < changed.len());
+            changed[place] = 0xda;
+            assert_eq!(rt;
+                verdict(&rt, alloc, &image, &changed)?,
+                Verdict::No {
+                    place: place as u64
+                }
+            );
+        }
+    }
     Ok(())
 }
