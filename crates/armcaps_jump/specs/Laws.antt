@@ -7,7 +7,8 @@ use Rattle.armcaps_jump.specs.declared.jump_entry.JumpEntry.{JumpEntry}
 use Rattle.armcaps_jump.specs.Entries.{entry_at}
 use Rattle.armcaps_jump.specs.Words.{is_on}
 
--- the word that an entry chooses: the branch to its target where key and branch flag differ, NOP where they are the same
+-- the word that an entry chooses: the branch to its target where key and branch flag differ, NOP where they are the
+-- same
 pub record IsChosen (image : List ℕ) (entry : JumpEntry) (word : ℕ) : Type 0 where
   pub jumps : is_on image entry ≢ entry.branch → IsBranch (as_place entry.code) entry.target word
   pub stays : is_on image entry ≡ entry.branch → word ≡ nop

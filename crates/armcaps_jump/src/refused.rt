@@ -7,9 +7,9 @@ use std::alloc::AllocError;
 pub enum JumpRefused {
     /// The table does not lie within the image.
     Table,
-    /// This entry, the first such one by its number in the table from 0 on, is refused, for the least kind that holds of
-    /// it: 1, its code is no word of the image; 2, its key does not lie within the image; 3, it jumps and no B has its
-    /// target.
+    /// This entry, the first such one by its number in the table from 0 on, is refused, for the least kind that holds
+    /// of it: 1, its code is no word of the image; 2, its key does not lie within the image; 3, it jumps and no B has
+    /// its target.
     Entry { entry: u32, kind: u8 },
     /// There was no memory.
     Memory,

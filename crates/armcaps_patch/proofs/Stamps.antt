@@ -10,6 +10,7 @@ use Rattle.std.proofs.lemmas.Bool.{cases_Bool}
 use Rattle.std.proofs.lemmas.List.Sorted.{All-permutation, IsPermutation-sym}
 use Rattle.armcaps_patch.specs.declared.site.Site.{Site}
 use Rattle.armcaps_patch.specs.Index.{IsSite, Tells, last_at, stamp_at}
+use Rattle.armcaps_logic.proofs.Options.{option_cases}
 use Rattle.armcaps_image.specs.Last.{last_that}
 use Rattle.armcaps_image.proofs.Last.{last_that-passes}
 use Rattle.armcaps_patch.specs.declared.kept.Kept.{Kept}
@@ -111,10 +112,6 @@ last_between place from sites a b to each low high a_in b_in before behind =
     let whole : last_at place (take a sites ++ rest) ≡ last_at place sites = ap (last_at place) (take-append-drop a sites) in
     let whole_rest : last_at place (take b rest ++ drop b rest) ≡ last_at place rest = ap (last_at place) (take-append-drop b rest) in
     omega (arith, front, back, parts, more, whole, whole_rest)
-
-option_cases : {X : Type 0} (o : Option X) → (o ≡ None) ⊎ ((x : X) × (o ≡ Some x))
-option_cases None = inl refl
-option_cases (Some x) = inr (x, refl)
 
 -- the item before a stamp's number is the last that passes
 pub stamped : {X : Type 0} (test : X → Bool) (stamp number : ℕ) (xs : List X) (d : X) → Tells test stamp 0 xs → stamp ≡ suc number → (last_that test xs ≡ Some (get_or xs number d)) × (test (get_or xs number d) ≡ true) × (number < length xs)

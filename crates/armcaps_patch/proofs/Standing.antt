@@ -5,6 +5,8 @@ use Rattle.std.specs.Option.{option_map}
 use Rattle.std.proofs.lemmas.Bool.{cases_Bool}
 use Rattle.std.proofs.lemmas.List.{length-map}
 use Rattle.std.proofs.lemmas.List.Sums.{sum_by-cons}
+use Rattle.armcaps_logic.proofs.Lists.{map_agree}
+use Rattle.armcaps_logic.proofs.Options.{option_cases}
 use Rattle.armcaps_alt.specs.declared.table_entry.Entry.{Entry}
 use Rattle.armcaps_alt.specs.declared.table_place.Layout.{Layout}
 use Rattle.armcaps_alt.specs.Entries.{Features, selected_of}
@@ -18,15 +20,6 @@ use Rattle.armcaps_image.proofs.Last.{last_that-map}
 use Rattle.armcaps_patch.specs.declared.kept.Kept.{Kept}
 use Rattle.armcaps_patch.specs.Counting.{words_of_sites}
 use Rattle.armcaps_patch.specs.Kept.{Planned, StandsFor, kept_covers, kept_of, kept_word, planned_byte, planned_image}
-
-option_cases : {X : Type 0} (o : Option X) → (o ≡ None) ⊎ ((x : X) × (o ≡ Some x))
-option_cases None = inl refl
-option_cases (Some x) = inr (x, refl)
-
--- two functions that agree everywhere make the same list
-map_same : {X Y : Type 0} (f g : X → Y) → ((x : X) → f x ≡ g x) → (xs : List X) → map f xs ≡ map g xs
-map_same f g same [] = refl
-map_same f g same (x ∷ xs) = rw (same x, map_same f g same xs) refl
 
 -- what is kept of an entry makes the entry's new words
 kept_word_is : (features : Features) (image : List ℕ) (entry : Entry) (index : ℕ) → kept_word features.ctr features.names.conduit image (kept_of features.names entry) index ≡ new_word features image entry index
@@ -47,7 +40,7 @@ byte_is plan features image entries place kept ctr conduit = rw (kept, ctr, cond
 
 pub image_stands : (plan : Planned) (features : Features) (image : List ℕ) (layout : Layout) → StandsFor plan features image layout → planned_image plan image ≡ patched_image features image layout
 image_stands plan features image layout stands =
-    map_same _ _ (λ place. byte_is plan features image (selected_of features image layout) place stands.kept stands.ctr stands.conduit) (range_with_len 0 (length image))
+    map_agree _ _ (λ place. byte_is plan features image (selected_of features image layout) place stands.kept stands.ctr stands.conduit) (range_with_len 0 (length image))
 
 -- as many are kept as are selected
 pub entries_stand : (plan : Planned) (features : Features) (image : List ℕ) (layout : Layout) → StandsFor plan features image layout → length plan.kept ≡ length (selected_of features image layout)

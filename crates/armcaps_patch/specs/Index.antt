@@ -23,7 +23,8 @@ pub record IsSite (site : Site) : Type 0 where
   pub few : site.number < 2 ^ 30
   pub words : site.words ≤ 63
 
--- what a stamp tells of items that are numbered from n on: that none passes, or one more than a number at which the last that
--- passes stands
+-- what a stamp tells of items that are numbered from n on: that none passes, or one more than a number at which the
+-- last that passes stands
 abbrev pub Tells : {X : Type 0} → (X → Bool) → ℕ → ℕ → List X → Type 0
-Tells test stamp n xs = MatchOption (last_that test xs) (stamp ≡ 0) (λ x. (k : ℕ) × ((stamp ≡ suc (n + k)) × (slice_get xs k ≡ Some x)))
+Tells test stamp n xs =
+    MatchOption (last_that test xs) (stamp ≡ 0) (λ x. (k : ℕ) × ((stamp ≡ suc (n + k)) × (slice_get xs k ≡ Some x)))

@@ -1,5 +1,5 @@
--- What a plan keeps of the selected entries, and what it makes of them. Of this file `StandsFor` has to be believed, with
--- `Planned` and `kept_of`: what a plan makes of an image is proved to be the patched image of armcaps_alt.
+-- What a plan keeps of the selected entries, and what it makes of them. Of this file `StandsFor` has to be believed,
+-- with `Planned` and `kept_of`: what a plan makes of an image is proved to be the patched image of armcaps_alt.
 use Rattle.std.specs.Prelude.{◌≡◌, ◌+◌, ◌-◌, ◌*◌, ◌/◌, ◌%◌, ◌^◌, ◌≤◌, ◌<◌, ◌&&◌, ℕ, Bool, List, [], ◌∷◌, Option, Some, None, Result, if◌then◌else◌, length, map, nat_le, nat_lt, slice_index, unwrap_or}
 use Rattle.std.specs.List.{All, range_with_len}
 use Rattle.std.specs.List.Sorted.{IsNonDecreasingBy, IsPermutation}
@@ -31,7 +31,8 @@ kept_of names entry = record {
   callback = if entry.callback then Some (unwrap_or (callback_named names entry.repl) callback.Keep) else None;
 }
 
--- where a kept entry's words come from: a replacement within an image of this size, or a callback that makes so many words
+-- where a kept entry's words come from: a replacement within an image of this size, or a callback that makes so many
+-- words
 abbrev pub SourceIsKept : ℕ → Kept → Option CallbackKind → Type 0
 SourceIsKept size kept None = (kept.repl % 4 ≡ 0) × (kept.repl + kept.len ≤ size)
 SourceIsKept size kept (Some kind) = (index : ℕ) → 4 * index < kept.len → IsIndex kind index
@@ -72,19 +73,36 @@ pub record Planned : Type 0 where
   pub ctr : ℕ
   pub conduit : Conduit
 
+-- the word that a kept entry makes at a place which its site covers
+abbrev pub word_by : Planned → List ℕ → ℕ → Kept → ℕ
+word_by plan image place kept = kept_word plan.ctr plan.conduit image kept ((place - kept.site) / 4)
+
 -- the word at a place that is a multiple of 4: the new one by the last kept entry that covers it, and else the original
 abbrev pub planned_word : Planned → List ℕ → ℕ → ℕ
 planned_word plan image place =
-    option_map_or (λ kept. kept_word plan.ctr plan.conduit image kept ((place - kept.site) / 4)) (last_that (kept_covers place) plan.kept) (word_in image place)
+    option_map_or (word_by plan image place) (last_that (kept_covers place) plan.kept) (word_in image place)
 
 -- the byte at a place
 abbrev pub planned_byte : Planned → List ℕ → ℕ → ℕ
 planned_byte plan image place =
-    option_map_or (λ kept. byte_of (kept_word plan.ctr plan.conduit image kept ((place - kept.site) / 4)) (place % 4)) (last_that (kept_covers place) plan.kept) (slice_index image place)
+    let original = slice_index image place in
+    option_map_or (λ kept. byte_of (word_by plan image place kept) (place % 4)) (last_that (kept_covers place) plan.kept)
+    original
 
 -- the image that a plan makes of an image
 abbrev pub planned_image : Planned → List ℕ → List ℕ
 planned_image plan image = map (planned_byte plan image) (range_with_len 0 (length image))
+
+-- what is planned with what is kept of an image's entries, CTR_EL0 and the conduit
+abbrev pub plan_of : List Kept → List ℕ → ℕ → Conduit → Planned
+plan_of kept image ctr conduit = record { kept = kept; size = length image; ctr = ctr; conduit = conduit }
+
+-- so many bytes from a place on are a piece of an image that begins with a word, and these are kept of its entries
+pub record IsPiece (image : List ℕ) (kept : List Kept) (from count : ℕ) : Type 0 where
+  pub small : length image ≤ 2 ^ 29
+  pub each : All (IsKept (length image)) kept
+  pub aligned : from % 4 ≡ 0
+  pub within : from + count ≤ length image
 
 -- the site of a kept entry, with the entry's number
 abbrev pub site_of : ℕ → Kept → Site

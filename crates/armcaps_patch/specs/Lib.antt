@@ -3,4 +3,5 @@ pub mod Replaced
 pub mod Features
 pub mod Index
 pub mod Kept
+pub mod Accepting
 pub mod Counting

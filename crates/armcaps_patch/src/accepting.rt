@@ -4,6 +4,7 @@ ghost use Rattle.std.specs.Prelude.{◌≡◌, ◌+◌, ◌≤◌, ◌^◌, nat_
 ghost use Rattle.armcaps_image.specs.Places.{as_place, is_within};
 ghost use Rattle.armcaps_alt.specs.Refusals.{first_kind, has_other_length, is_unaligned, makes_other_length, tests_of};
 ghost use Rattle.armcaps_patch.specs.Replaced.{word_tests};
+ghost use Rattle.armcaps_patch.specs.Accepting.{IsPlaced, KeepsOrRefuses};
 ghost use Rattle.armcaps_patch.specs.Kept.{IsKept, kept_of};
 
 use crate::kept::Kept;
@@ -15,10 +16,7 @@ use armcaps_insn::FixRefused;
 // What is kept of a selected entry, or the least kind that holds of it.
 pub(crate) fn accept(entry: &Entry, image: &[u8], names: &Names) -> Result<Kept, PatchKind>
     requires { length image.now ≤ 2 ^ 29 }
-    ensures refused { IfErr result (λ kind. first_kind (tests_of names.now image.now entry.now) ≡ Some kind) }
-    ensures accepted { IfOk result (λ kept. first_kind (tests_of names.now image.now entry.now) ≡ None) }
-    ensures kept { IfOk result (λ kept. kept ≡ kept_of names.now entry.now) }
-    ensures each { IfOk result (IsKept (length image.now)) }
+    ensures { KeepsOrRefuses names.now image.now entry.now result }
 {
     if is_unaligned(entry) {
         return Err(PatchKind::Unaligned);
@@ -39,14 +37,8 @@ pub(crate) fn accept(entry: &Entry, image: &[u8], names: &Names) -> Result<Kept,
 // The same of an entry with a callback, of which no kind before UnknownCallback holds.
 fn accept_callback(entry: &Entry, site: u32, image: &[u8], names: &Names) -> Result<Kept, PatchKind>
     requires callback { entry.now.callback ≡ true }
-    requires aligned { is_unaligned entry.now ≡ false }
-    requires site { site ≡ as_place entry.now.site }
-    requires within { is_within (length image.now) entry.now.site entry.now.orig_len ≡ true }
-    requires length { has_other_length entry.now ≡ false }
-    ensures refused { IfErr result (λ kind. first_kind (tests_of names.now image.now entry.now) ≡ Some kind) }
-    ensures accepted { IfOk result (λ kept. first_kind (tests_of names.now image.now entry.now) ≡ None) }
-    ensures kept { IfOk result (λ kept. kept ≡ kept_of names.now entry.now) }
-    ensures each { IfOk result (IsKept (length image.now)) }
+    requires placed { IsPlaced (length image.now) entry.now site }
+    ensures { KeepsOrRefuses names.now image.now entry.now result }
 {
     let Some(kind) = names.callback(entry.repl) else {
         return Err(PatchKind::UnknownCallback);
@@ -71,14 +63,8 @@ fn accept_replacement(
 ) -> Result<Kept, PatchKind>
     requires callback { entry.now.callback ≡ false }
     requires size { length image.now ≤ 2 ^ 29 }
-    requires aligned { is_unaligned entry.now ≡ false }
-    requires site { site ≡ as_place entry.now.site }
-    requires within { is_within (length image.now) entry.now.site entry.now.orig_len ≡ true }
-    requires length { has_other_length entry.now ≡ false }
-    ensures refused { IfErr result (λ kind. first_kind (tests_of names.now image.now entry.now) ≡ Some kind) }
-    ensures accepted { IfOk result (λ kept. first_kind (tests_of names.now image.now entry.now) ≡ None) }
-    ensures kept { IfOk result (λ kept. kept ≡ kept_of names.now entry.now) }
-    ensures each { IfOk result (IsKept (length image.now)) }
+    requires placed { IsPlaced (length image.now) entry.now site }
+    ensures { KeepsOrRefuses names.now image.now entry.now result }
 {
     let Some(repl) = place_within(image.len(), entry.repl, entry.orig_len) else {
         return Err(PatchKind::ReplacementOutside);

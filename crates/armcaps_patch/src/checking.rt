@@ -19,8 +19,8 @@ use armcaps_boot::Boot;
 use std::alloc::{AllocError, Global};
 
 impl Plan {
-    /// A plan of the patched image: the entries of its table are asked in their order, and the first one that is refused ends
-    /// it. The table lies in the image, and the machine's capabilities are final.
+    /// A plan of the patched image: the entries of its table are asked in their order, and the first one that is
+    /// refused ends it. The table lies in the image, and the machine's capabilities are final.
     pub fn check(
         alloc: Global,
         image: &[u8],
@@ -33,7 +33,8 @@ impl Plan {
         requires finalised { boot.now.final ≡ true }
         ensures stands { IfOk result (λ plan. StandsFor plan (features_of boot.now names.now) image.now layout) }
         ensures refused { (entry : ℕ) (kind : PatchKind) → result ≡ Err (PatchRefused.Entry entry kind)
-            → first_refusal (features_of boot.now names.now) image.now layout ≡ Some (record { entry = entry; kind = kind }) }
+            → first_refusal (features_of boot.now names.now) image.now layout
+            ≡ Some (record { entry = entry; kind = kind }) }
     {
         let kept = keep_all(alloc, image, layout, names, boot)?;
         let plan = Plan::of(
@@ -73,7 +74,8 @@ fn keep_all(
     ensures each { IfOk result (λ kept. All (IsKept (length image.now)) kept.items) }
     ensures few { IfOk result (λ kept. length kept.items ≤ layout.count) }
     ensures refused { (entry : ℕ) (kind : PatchKind) → result ≡ Err (PatchRefused.Entry entry kind)
-        → first_refusal (features_of boot.now names.now) image.now layout ≡ Some (record { entry = entry; kind = kind }) }
+        → first_refusal (features_of boot.now names.now) image.now layout
+        ≡ Some (record { entry = entry; kind = kind }) }
 {
     let enabled = enabled_on(boot);
     let mut kept = Vec::with_capacity(alloc, layout.count as usize)?;

@@ -1,7 +1,7 @@
 use armcaps_alt::CallbackKind;
 
-// What a plan keeps of a selected entry: the place of its site and its length in bytes, and the place of its replacement or,
-// in its stead, its callback.
+// What a plan keeps of a selected entry: the place of its site and its length in bytes, and the place of its
+// replacement or, in its stead, its callback.
 #[derive(Clone, Copy, Debug)]
 pub(crate) struct Kept {
     pub(crate) site: u32,

@@ -7,7 +7,8 @@ ghost use Rattle.armcaps_patch.specs.Index.{IsSite, last_at};
 
 use crate::site::Site;
 
-// The sites that can cover places from one on to another: none that covers one is left out. A site has at most 252 bytes.
+// The sites that can cover places from one on to another: none that covers one is left out. A site has at most 252
+// bytes.
 pub(crate) fn near(sites: &[Site], from: u32, to: u32) -> &[Site]
     requires sorted { IsNonDecreasingBy (λ site. site.place) sites.now }
     requires sites { All IsSite sites.now }

@@ -1,9 +1,8 @@
 //! The words of one piece of a patched image.
 
-ghost use Rattle.std.specs.Prelude.{◌≡◌, ◌+◌, ◌-◌, ◌*◌, ◌%◌, ◌<◌, ◌≤◌, ◌^◌, ◌&&◌, ℕ, if◌then◌else◌, length, nat_le, nat_lt, slice_index};
-ghost use Rattle.std.specs.List.{All};
+ghost use Rattle.std.specs.Prelude.{◌≡◌, ◌+◌, ◌-◌, ◌*◌, ◌<◌, ◌≤◌, ◌&&◌, ℕ, if◌then◌else◌, length, nat_le, nat_lt, slice_index};
 ghost use Rattle.armcaps_patch.specs.Index.{Tells};
-ghost use Rattle.armcaps_patch.specs.Kept.{IsKept, kept_covers, planned_byte, planned_word};
+ghost use Rattle.armcaps_patch.specs.Kept.{IsPiece, kept_covers, plan_of, planned_byte, planned_word};
 
 use crate::kept::Kept;
 use crate::words::new_word;
@@ -19,12 +18,9 @@ fn stamped_word(
     ctr: u64,
     conduit: Conduit,
 ) -> u32
-    requires kept { All (IsKept (length image.now)) kept.now }
-    requires size { length image.now ≤ 2 ^ 29 }
-    requires aligned { place % 4 ≡ 0 }
-    requires within { place + 4 ≤ length image.now }
+    requires piece { IsPiece image.now kept.now place 4 }
     requires stamp { Tells (kept_covers place) stamp 0 kept.now }
-    ensures { result ≡ planned_word (record { kept = kept.now; size = length image.now; ctr = ctr; conduit = conduit }) image.now place }
+    ensures { result ≡ planned_word (plan_of kept.now image.now ctr conduit) image.now place }
 {
     match stamp.checked_sub(1) {
         Some(number) => {
@@ -45,16 +41,13 @@ pub(crate) fn put_words(
     ctr: u64,
     conduit: Conduit,
 )
-    requires kept { All (IsKept (length image.now)) kept.now }
-    requires size { length image.now ≤ 2 ^ 29 }
-    requires aligned { from % 4 ≡ 0 }
+    requires piece { IsPiece image.now kept.now from (length buffer.old) }
     requires slots { 4 * length slots.now ≤ length buffer.old }
-    requires within { from + length buffer.old ≤ length image.now }
     requires stamps { (k : ℕ) → k < length slots.now
         → Tells (kept_covers (from + 4 * k)) (slice_index slots.now k) 0 kept.now }
     requires original { (j : ℕ) → j < length buffer.old → slice_index buffer.old j ≡ slice_index image.now (from + j) }
     ensures new { (j : ℕ) → j < 4 * length slots.now
-        → slice_index buffer.new j ≡ planned_byte (record { kept = kept.now; size = length image.now; ctr = ctr; conduit = conduit }) image.now (from + j) }
+        → slice_index buffer.new j ≡ planned_byte (plan_of kept.now image.now ctr conduit) image.now (from + j) }
     ensures rest { (j : ℕ) → 4 * length slots.now ≤ j → slice_index buffer.new j ≡ slice_index buffer.old j }
 {
     for (k, stamp) in slots.iter().enumerate() {
@@ -73,15 +66,13 @@ fn put_stamped(
     ctr: u64,
     conduit: Conduit,
 )
-    requires kept { All (IsKept (length image.now)) kept.now }
-    requires size { length image.now ≤ 2 ^ 29 }
-    requires aligned { from % 4 ≡ 0 }
+    requires piece { IsPiece image.now kept.now from (length buffer.old) }
     requires word { 4 * k + 4 ≤ length buffer.old }
-    requires within { from + length buffer.old ≤ length image.now }
     requires stamp { Tells (kept_covers (from + 4 * k)) stamp 0 kept.now }
-    requires original { (i : ℕ) → i < 4 → slice_index buffer.old (4 * k + i) ≡ slice_index image.now (from + 4 * k + i) }
+    requires original { (i : ℕ) → i < 4
+        → slice_index buffer.old (4 * k + i) ≡ slice_index image.now (from + 4 * k + i) }
     ensures new { (i : ℕ) → i < 4 → slice_index buffer.new (4 * k + i)
-        ≡ planned_byte (record { kept = kept.now; size = length image.now; ctr = ctr; conduit = conduit }) image.now (from + 4 * k + i) }
+        ≡ planned_byte (plan_of kept.now image.now ctr conduit) image.now (from + 4 * k + i) }
     ensures before { (j : ℕ) → j < 4 * k → slice_index buffer.new j ≡ slice_index buffer.old j }
     ensures behind { (j : ℕ) → 4 * k + 4 ≤ j → slice_index buffer.new j ≡ slice_index buffer.old j }
 {

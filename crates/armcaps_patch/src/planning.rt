@@ -22,8 +22,8 @@ use armcaps_io::{Sink, WriteFault, send_all};
 use std::alloc::{AllocError, Global};
 use std::marker::Model;
 
-/// What is to be patched in an image: the selected entries of its table in their order, and an index that names for each
-/// word the last of them that covers it.
+/// What is to be patched in an image: the selected entries of its table in their order, and an index that names for
+/// each word the last of them that covers it.
 #[derive(Debug, Drop)]
 pub struct Plan {
     kept: Vec<Kept>,
@@ -96,7 +96,8 @@ impl Plan {
         ensures whole { (features : Features) (layout : Layout) → StandsFor self.now features image.now layout
             → OnOk result (Appends (O.held sink.old) (O.held sink.new) (patched_image features image.now layout)) }
         ensures prefix { (features : Features) (layout : Layout) → StandsFor self.now features image.now layout
-            → OnErr result (AppendsPrefix (O.held sink.old) (O.held sink.new) (patched_image features image.now layout)) }
+            → OnErr result
+            (AppendsPrefix (O.held sink.old) (O.held sink.new) (patched_image features image.now layout)) }
         ensures never_falls { O.faults sink.old ≤ O.faults sink.new }
         ensures cause { OnErr result (Rose (O.faults sink.old) (O.faults sink.new)) }
     {
@@ -105,8 +106,8 @@ impl Plan {
 }
 
 impl Plan {
-    // The sites that can cover places from one on to another: the greatest stamp of theirs on a place tells the last kept
-    // entry that covers it.
+    // The sites that can cover places from one on to another: the greatest stamp of theirs on a place tells the last
+    // kept entry that covers it.
     pub(crate) fn nearby(&self, from: usize, to: usize) -> &[Site]
         requires order { from ≤ to }
         requires within { to ≤ self.now.size }

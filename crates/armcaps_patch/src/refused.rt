@@ -6,7 +6,8 @@ use std::alloc::AllocError;
 /// Why there is no plan.
 #[derive(Clone, Copy, Debug, PartialEq, Eq)]
 pub enum PatchRefused {
-    /// This entry, the first such one by its number in the table from 0 on, is refused, for the least kind that holds of it.
+    /// This entry, the first such one by its number in the table from 0 on, is refused, for the least kind that holds
+    /// of it.
     Entry { entry: u32, kind: PatchKind },
     /// There was no memory.
     Memory,

@@ -1,4 +1,5 @@
-// Where a kept entry's site is: its place in bytes, its length in words, and the entry's number among those that are kept.
+// Where a kept entry's site is: its place in bytes, its length in words, and the entry's number among those that are
+// kept.
 #[derive(Clone, Copy, Debug)]
 pub(crate) struct Site {
     pub(crate) place: u32,

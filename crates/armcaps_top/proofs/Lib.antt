@@ -9,6 +9,7 @@ pub mod GeneratedSites
 pub mod Images
 pub mod Limits
 pub mod Outputs
+pub mod PatchedImages
 pub mod Performing
 pub mod Promising
 pub mod ShortLines

@@ -7,6 +7,7 @@ pub mod Jump
 pub mod Demo
 pub mod Answer
 pub mod Laws
+pub mod Features
 pub mod Ending
 pub mod Telling
 pub mod Run

@@ -7,6 +7,7 @@ mod document;
 mod ending;
 mod kept_bytes;
 pub mod laws;
+pub mod patch_laws;
 mod program;
 mod reading;
 mod reason;

@@ -1,11 +1,11 @@
 use Rattle.std.proofs.Common.{◌≡◌, ap, ℕ, ◌+◌, ◌-◌, ◌*◌, arith, get_or, inl, inr, length, subst, ◌∙◌}
 use Rattle.std.proofs.lemmas.Bool.{cases_lt}
-use Rattle.armcaps_patch.specs.Kept.{Planned, planned_byte}
+use Rattle.armcaps_patch.specs.Kept.{Planned, plan_of, planned_byte}
 use Rattle.armcaps_patch.proofs.pieces.put_words.Goals as goal
 
 pub loop-k-preserved : goal.loop-k-preserved
 loop-k-preserved c =
-    let plan : Planned = record { kept = c.args.kept.now; size = length c.args.image.now; ctr = c.args.ctr; conduit = c.args.conduit } in
+    let plan : Planned = plan_of c.args.kept.now c.args.image.now c.args.ctr c.args.conduit in
     record {
       new = λ j below. elim (cases_lt j (4 * c.loop-k.k)) [
         | inl before ↦ c.put_stamped.ensures.before j before ∙ c.loop-k.invariant.new j before
