@@ -7,7 +7,7 @@ import struct
 from .command import Refused
 
 ENTRY = struct.Struct("<iiHBB")
-JUMP_ENTRY = 16
+JUMP = struct.Struct("<iiq")
 CALLBACK = 0x8000
 
 
@@ -79,7 +79,16 @@ class Kernel:
         """The table of jump labels, if the symbols have one."""
         if "__start___jump_table" not in self.offsets:
             return None
-        return self.span("__start___jump_table", "__stop___jump_table", JUMP_ENTRY, "table of jump labels")
+        return self.span("__start___jump_table", "__stop___jump_table", JUMP.size, "table of jump labels")
+
+    def has_keys(self):
+        """Whether the key of each jump label lies within the image: those in .bss lie beyond a file without it."""
+        begin, count = self.jump_table()
+        for place in range(begin, begin + count * JUMP.size, JUMP.size):
+            key = place + 8 + (JUMP.unpack_from(self.image, place)[2] & ~3)
+            if not 0 <= key <= len(self.image) - 4:
+                return False
+        return True
 
     def entries(self):
         return entries_of(self.image, *self.table())

@@ -7,11 +7,14 @@ import re
 ROOT = ("armcaps_top", "Run", "Promises")
 # the subjects of the page: the title, what it is about, and the crates and files of its definitions
 SUBJECTS = (
-    ("A run", "What is promised of one call, whatever its words and its input are.", ("armcaps_top/Run", "armcaps_top/Answer")),
+    ("A run", "What is promised of one call, whatever its words and its input are.", (
+        "armcaps_top/Run", "armcaps_top/Answer")),
     ("How a run ends", "The endings, their statuses and lines, and what the streams gave and got.", (
         "armcaps_top/Ending", "armcaps_top/Telling", "armcaps_io")),
-    ("Commands", "What the words ask for, and what each command writes.", ("armcaps_top", "armcaps_mrs", "armcaps_report")),
-    ("Input", "What text the bytes of an input are, and what it says.", ("armcaps_text", "armcaps_lex", "armcaps_cmdline")),
+    ("Commands", "What the words ask for, and what each command writes.", (
+        "armcaps_top", "armcaps_mrs", "armcaps_report")),
+    ("Input", "What text the bytes of an input are, and what it says.", (
+        "armcaps_text", "armcaps_lex", "armcaps_cmdline")),
     ("Cores", "How cores come up, step by step, which of them are admitted, and why others are parked.", (
         "armcaps_board", "armcaps_boot")),
     ("Registers", "What a register's fields are, and the one value that all admitted cores keep of each.", (
@@ -22,7 +25,8 @@ SUBJECTS = (
     ("Images", "What a patched image is.", (
         "armcaps_alt", "armcaps_image", "armcaps_insn", "armcaps_patch", "armcaps_elf", "armcaps_jump")),
     ("Pools", "What many machines have in common, and whether an image is the patched one.", ("armcaps_pool",)),
-    ("Machines from a number", "What `demo` works on, by its words alone.", ("armcaps_generate", "armcaps_text/Generator")),
+    ("Machines from a number", "What `demo` works on, by its words alone.", (
+        "armcaps_generate", "armcaps_text/Generator")),
     ("Others", "Definitions of crates that have no place above.", ()),
 )
 # tables: their lines are read beside the manual or Linux, on a page of their own
@@ -36,20 +40,22 @@ TABLES = {
 HEAD = """<!-- Written by tools/definitions from the contracts and definitions of the crates. Do not edit. -->
 # The theorem
 
-A run of `armcaps` ends. Where its status is 0, the bytes that its command works on bring up machines that no step stops, and it wrote
-exactly what the command makes of those bytes, and nothing else: registers, capabilities, hwcaps, vector lengths and patched words
-as they are defined below, for every order in which the cores came up. Each core that was admitted has every system feature that is
-enabled, and each workaround that such a core needs is enabled. Any other status says why nothing was written, or that a stream
-failed or there was no memory, and the error stream got the line that says so, or a first part of it where it failed itself. The checker has
-proved this of `armcaps_top::run`, whose contract is the record `Promises`. Bytes are spoken of where the source tells its bytes and
+A run of `armcaps` ends. Where its status is 0, the bytes that its command works on bring up machines that no step
+stops, and it wrote exactly what the command makes of those bytes, and nothing else: registers, capabilities, hwcaps,
+vector lengths and patched words as they are defined below, for every order in which the cores came up. Each core that
+was admitted has every system feature that is enabled, and each workaround that such a core needs is enabled. Any
+other status says why nothing was written, or that a stream failed or there was no memory, and the error stream got
+the line that says so, or a first part of it where it failed itself. The checker has proved this of
+`armcaps_top::run`, whose contract is the record `Promises`. Bytes are spoken of where the source tells its bytes and
 the sink what it holds, as those in memory do; README.md says what is left of it over real streams.
 
-This page is all that has to be believed of that: `Promises`, and each definition that it rests on, as it stands in crates/NAME/specs,
-with the words above it. A name is explained after its first use, in the order of the first use within a subject. It is
-{definitions} definitions in {lines} lines without comments and blank lines; {tabled} more are lines of tables, in {rows} lines, which
-are read beside the manual and Linux in docs/FIELDS.md, docs/CAPABILITIES.md and docs/HWCAPS.md. Functions compute; relations and
-records, whose names begin with a capital letter, say what holds. `abbrev` and `unfoldable` only tell the checker when to look inside, `pub`
-lets other files name it; words that are not here are of the toolchain's standard library.
+This page is all that has to be believed of that: `Promises`, and each definition that it rests on, as it stands in
+crates/NAME/specs, with the words above it. A name is explained after its first use, in the order of the first use
+within a subject. It is {definitions} definitions in {lines} lines without comments and blank lines; {tabled} more are
+lines of tables, in {rows} lines, which are read beside the manual and Linux in docs/FIELDS.md, docs/CAPABILITIES.md
+and docs/HWCAPS.md. Functions compute; relations and records, whose names begin with a capital letter, say what holds.
+`abbrev` and `unfoldable` only tell the checker when to look inside, `pub` lets other files name it; words that are
+not here are of the toolchain's standard library.
 
 """
 
@@ -86,7 +92,8 @@ def block(definition):
     """A definition as its file has it, with its comment, and where it stands."""
     comment = definition.comment
     told = f"{comment[0].upper()}{comment[1:]}." if comment else ""
-    return f"**{definition.name}** ({definition.crate[8:]}, {definition.file}). {told}\n\n```text\n{definition.text.strip()}\n```\n\n"
+    where = f"({definition.crate[8:]}, {definition.file})"
+    return f"**{definition.name}** {where}. {told}\n\n```text\n{definition.text.strip()}\n```\n\n"
 
 
 def table(definitions):
@@ -106,7 +113,8 @@ def types_of(definitions):
             kind, *modules = place.split(".")
             if kind == "declared" and "TheVariants" not in modules:
                 found[name, crate] = f"crates/{crate}/src/{'/'.join(modules[:-1])}.rt"
-    yield "## Types of the code\n\nEnums and structs that definitions name, with their variants and fields where they stand.\n\n"
+    yield "## Types of the code\n\n"
+    yield "Enums and structs that definitions name, with their variants and fields where they stand.\n\n"
     for (name, _), path in sorted(found.items()):
         yield f"- `{name}`: {path}\n"
 

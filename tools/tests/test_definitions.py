@@ -1,4 +1,4 @@
-"""What tools/definitions reads: which definitions files have, with which comments, and which of them clauses rest on."""
+"""What tools/definitions reads: the definitions of files, with their comments, and which of them clauses rest on."""
 
 import pathlib
 import tempfile

@@ -158,6 +158,12 @@ class Files(Small):
         jumps = "ffff800080003100 D __start___jump_table\nffff800080003120 D __stop___jump_table\n"
         self.assertIn("`jump 0x3100 2`", self.answer(change=lambda text: text + jumps)[2])
 
+    def test_keys_beyond_the_image(self):
+        run(TOP / "examples/patching/make-kernel", "--labels", self.folder)
+        words = self.answer("--padded", self.folder / "padded")[2]
+        self.assertIn("`jump 0x3100 3`\n", words)
+        self.assertIn("keys lie beyond the image", self.answer()[2])
+
     def test_vmlinux(self):
         symbols = kernel.symbols((self.folder / "kernel.nm").read_bytes())
         file = self.folder / "vmlinux"
@@ -167,6 +173,20 @@ class Files(Small):
         expected = [line for line in self.answer("--running", *KEEP)[1] if not line.startswith("table ")]
         self.assertEqual(done.stdout.decode().splitlines()[:-1], expected[:-1], done.stderr.decode())
         self.assertEqual(done.stdout.decode().splitlines()[-1], f"image {file.stat().st_size}")
+        self.assertNotIn(b"jump", done.stderr)
+
+    def test_numbers_beside_vmlinux(self):
+        symbols = kernel.symbols((self.folder / "kernel.nm").read_bytes())
+        file = self.folder / "vmlinux"
+        file.write_bytes(vmlinux(self.image, symbols, symbols["__alt_instructions"]))
+        words = ["--vmlinux", file, "--running", *KEEP, "-"]
+        self.assertEqual(run(TOP / "tools/kernel2text", *words, given=TEXT.encode()).returncode, 2)
+        generated = self.folder / "arch/arm64/include/generated/asm"
+        generated.mkdir(parents=True)
+        (generated / "cpucap-defs.h").write_bytes(CAPS.read_bytes())
+        found = run(TOP / "tools/kernel2text", *words, given=TEXT.encode())
+        told = run(TOP / "tools/kernel2text", *words, "--caps", CAPS, given=TEXT.encode())
+        self.assertEqual((found.returncode, found.stdout), (0, told.stdout))
 
     def test_a_file_above_the_limit(self):
         with open(self.folder / "kernel.img", "r+b") as file:
