@@ -4,6 +4,7 @@ mod Files
 mod FirstKind
 mod Flat
 mod Holding
+mod Loading
 mod Names
 mod OwnImage
 mod Sharing

@@ -1,5 +1,5 @@
 -- What is kept of a file that was read.
-use Rattle.std.specs.Prelude.{◌≡◌, ◌+◌, ◌<◌, ◌≤◌, ◌^◌, ℕ, List, None, length}
+use Rattle.std.specs.Prelude.{◌≡◌, ◌+◌, ◌*◌, ◌<◌, ◌≤◌, ◌^◌, ℕ, List, None, length}
 use Rattle.std.specs.List.{All, AllPairs, list_any}
 use Rattle.std.specs.List.Sorted.{IsPermutation}
 use Rattle.armcaps_elf.specs.declared.section.Section.{Section}
@@ -30,7 +30,7 @@ pub record StandsFor (loaded : Loaded) (file : List ℕ) : Type 0 where
   pub entries : loaded.entries ≡ entry_count file
 
 -- what is kept beside that: the sections also in the order of their places, and the stretches that they make. No
--- section is empty, none shares bytes with another, and all are within the flat image
+-- section is empty, none shares bytes with another, and all are within the flat image, as the table is
 pub record IsElf (loaded : Loaded) (by_place : List Section) (stretches : List Stretch) : Type 0 where
   pub same : IsPermutation loaded.sections by_place
   pub rise : AllPairs (Follows (λ section. section.address)) loaded.sections
@@ -39,5 +39,6 @@ pub record IsElf (loaded : Loaded) (by_place : List Section) (stretches : List S
   pub above : All (λ section. loaded.base ≤ section.address) loaded.sections
   pub below : All (λ section. section.address + section.size ≤ loaded.base + loaded.span) loaded.sections
   pub small : loaded.span ≤ 2 ^ 27
+  pub table : loaded.table + 12 * loaded.entries ≤ loaded.span
   pub held : (n : ℕ) → list_any (in_stretch n) stretches ≡ is_held loaded.sections (loaded.base + n)
   pub apart : IsApart stretches

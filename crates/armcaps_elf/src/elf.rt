@@ -1,10 +1,12 @@
 //! What is kept of an ELF file.
 
-ghost use Rattle.std.specs.Prelude.{◌≡◌, ◌+◌, ◌<◌, ◌≤◌, ◌^◌, ℕ, false, true};
+ghost use Rattle.std.specs.Prelude.{◌≡◌, ◌+◌, ◌*◌, ◌<◌, ◌≤◌, ◌^◌, ℕ, List, false, true};
 ghost use Rattle.std.specs.List.{All, AllPairs};
 ghost use Rattle.std.specs.List.Sorted.{IsPermutation};
+ghost use Rattle.armcaps_elf.specs.Headers.{sections_of};
 ghost use Rattle.armcaps_elf.specs.Sections.{Follows};
-ghost use Rattle.armcaps_elf.specs.Stretches.{is_held};
+ghost use Rattle.armcaps_elf.specs.Standing.{StandsFor};
+ghost use Rattle.armcaps_elf.specs.Stretches.{are_loaded, is_held};
 
 use crate::section::Section;
 use crate::stretch::{Stretch, are_covered};
@@ -74,6 +76,8 @@ impl Elf {
     pub fn table(&self) -> (u32, u32)
         ensures place { result.0 ≡ self.now.table }
         ensures entries { result.1 ≡ self.now.entries }
+        ensures within { result.0 + 12 * result.1 ≤ self.now.span }
+        ensures small { self.now.span ≤ 2 ^ 27 }
     {
         (self.table, self.entries)
     }
@@ -85,6 +89,8 @@ impl Elf {
             → is_held self.now.sections (self.now.base + n) ≡ true }
         ensures some { result ≡ false → (n : ℕ) × (start ≤ n) × (n < start + length)
             × (is_held self.now.sections (self.now.base + n) ≡ false) }
+        ensures loaded { (file : List ℕ) → StandsFor self.now file
+            → result ≡ are_loaded (sections_of file) start length }
     {
         are_covered(&self.stretches, start, start + length)
     }

@@ -15,7 +15,8 @@ impl Elf {
     /// on, and 0 where no section is.
     pub fn flat(&self, alloc: Global, bytes: &[u8]) -> Result<Vec<u8>, AllocError>
         requires { StandsFor self.now bytes.now }
-        ensures { IfOk result (λ flat. flat.items ≡ flat_image bytes.now) }
+        ensures bytes { IfOk result (λ flat. flat.items ≡ flat_image bytes.now) }
+        ensures span { IfOk result (λ flat. length flat.items ≡ self.now.span) }
     {
         let mut flat = vec![in alloc; 0; self.span() as usize]?;
         put_sections(&mut flat, self.base(), self.loaded(), bytes);

@@ -67,7 +67,7 @@ fn keep(orders: Orders, stretches: Vec<Stretch>, extent: Extent, table: &Section
         → list_any (in_stretch n) stretches.items ≡ is_held orders.by_address.items (extent.base + n) }
     requires apart { IsApart stretches.items }
     requires table_above { extent.base ≤ table.now.address }
-    requires table_below { table.now.address ≤ extent.base + extent.span }
+    requires table_below { table.now.address + table.now.size ≤ extent.base + extent.span }
     requires table_size { table.now.size ≤ 12582912 }
     ensures { result ≡ record {
       sections = orders.by_address.items;

@@ -100,8 +100,8 @@ fn add(kept: &mut Vec<Kept>, found: Option<Kept>) -> Result<(), AllocError>
     Ok(())
 }
 
-// The entry of the table that has this number.
-fn entry_at(image: &[u8], layout: Layout, index: u32) -> Entry
+/// The entry of the table that has this number.
+pub fn entry_at(image: &[u8], layout: Layout, index: u32) -> Entry
     requires size { length image.now ≤ 2 ^ 29 }
     requires table { layout.table + 12 * layout.count ≤ length image.now }
     requires index { index < layout.count }

@@ -17,5 +17,7 @@ mod slots;
 mod tests;
 mod words;
 
+pub use checking::entry_at;
 pub use planning::Plan;
 pub use refused::PatchRefused;
+pub use selecting::enabled_on;

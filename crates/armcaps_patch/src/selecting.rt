@@ -7,8 +7,8 @@ ghost use Rattle.armcaps_caps.specs.Set.{holds};
 use armcaps_boot::Boot;
 use armcaps_caps::{CAPABILITIES, CapSet};
 
-// The capabilities that a machine has enabled.
-pub(crate) fn enabled_on(boot: &Boot) -> CapSet
+/// The capabilities that a machine has enabled.
+pub fn enabled_on(boot: &Boot) -> CapSet
     requires { boot.now.final ≡ true }
     ensures { (number : ℕ) → number < 53 → holds result number ≡ is_enabled boot.now number }
 {

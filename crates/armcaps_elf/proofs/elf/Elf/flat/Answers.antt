@@ -4,8 +4,8 @@ use Rattle.armcaps_elf.specs.Images.{byte_at}
 use Rattle.armcaps_elf.proofs.Flat.{flat_is}
 use Rattle.armcaps_elf.proofs.elf.Elf.flat.Goals as goal
 
-pub returns : goal.returns
-returns c =
+pub returns-clause-bytes : goal.returns-clause-bytes
+returns-clause-bytes c =
     let image = c.put_sections.new.flat in
     let file = c.args.bytes.now in
     let loaded = c.args.self.now in

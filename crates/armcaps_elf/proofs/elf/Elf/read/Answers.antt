@@ -88,9 +88,7 @@ pub keep-requires-clause-table_below : goal.keep-requires-clause-table_below
 keep-requires-clause-table_below c =
     let whole = c.in_ok-sections.ensures ∙ ap sections_in (c.deref-2.ensures.value ∙ c.in_ok-headers.ensures.headers) in
     let P : Section → Type 0 = λ s. s.address + s.size ≤ c.in-Some.extent.base + c.in-Some.extent.span in
-    let within : c.in_ok-table.table.address + c.in_ok-table.table.size ≤ c.in-Some.extent.base + c.in-Some.extent.span =
-    table_passes P c.args.bytes.now c.in_ok-table.table (subst (All P) (c.deref-4.ensures.value ∙ whole) c.in-Some.ensures.below) c.in_ok-table.ensures.table in
-    omega arith
+    table_passes P c.args.bytes.now c.in_ok-table.table (subst (All P) (c.deref-4.ensures.value ∙ whole) c.in-Some.ensures.below) c.in_ok-table.ensures.table
 
 pub returns-clause-stands : goal.returns-clause-stands
 returns-clause-stands c =
