@@ -1,6 +1,9 @@
 -- Which reasons the answers of commands can have.
 use Rattle.std.proofs.Common.{◌≡◌, ◌⊎◌, inl, inr, ℕ, ◌+◌, ◌*◌, ◌≤◌, Bool, true, false, cond, nat_lt, length, List, [], ◌∷◌, Option, Some, None, refl, ap, subst}
 use Rattle.std.specs.Prelude.{Result, Ok, Err}
+use Rattle.std.specs.Option.{option_and_then, option_map, option_or}
+use Rattle.armcaps_alt.specs.declared.table_place.Layout.{Layout}
+use Rattle.armcaps_elf.specs.Images.{flat_image}
 use Rattle.armcaps_alt.specs.Entries.{Features}
 use Rattle.armcaps_alt.specs.Patched.{patched_image}
 use Rattle.armcaps_alt.specs.Refusals as alternatives
@@ -17,19 +20,20 @@ use Rattle.armcaps_text.specs.Generator.{generated_reading}
 use Rattle.armcaps_top.specs.Answer.{Answer, answer_for, steps_of, halt_in, of_document, output_in, read_or_not, refused, unless_stopped}
 use Rattle.armcaps_top.specs.Demo.{generated_document}
 use Rattle.armcaps_top.specs.Document.{Document, document}
+use Rattle.armcaps_top.specs.Elf.{elf_reason, file_kind, first_unloaded, patched_file, table_in, unloaded_at}
 use Rattle.armcaps_top.specs.Ending.{reason_status}
 use Rattle.armcaps_top.specs.Inside.{AreCoresGiven}
 use Rattle.armcaps_top.specs.Jump.{labelled_after, unless_label_refused}
 use Rattle.armcaps_top.specs.Mrs.{read_output}
-use Rattle.armcaps_top.specs.Patch.{patch_output, unless_entry_refused}
+use Rattle.armcaps_top.specs.Patch.{not_patched, patch_output, refused_entry, unless, unless_entry_refused}
 use Rattle.armcaps_top.specs.Run.{can_end, is_some_stopped, reads_input}
 use Rattle.armcaps_top.specs.declared.commands.Command.{Command}
-use Rattle.armcaps_top.specs.declared.commands.Command.TheVariants.{Ask, Patch, Jump, Demo}
+use Rattle.armcaps_top.specs.declared.commands.Command.TheVariants.{Ask, Patch, Elf, Jump, Demo}
 use Rattle.armcaps_top.specs.declared.commands.Query.TheVariants.{Report, Mrs, Trace}
 use Rattle.armcaps_top.specs.declared.commands.jump.LabelsRefused.TheVariants.{TableOutside, Entry}
 use Rattle.armcaps_top.specs.declared.commands.mrs.ReadRefused.{ReadRefused}
 use Rattle.armcaps_top.specs.declared.reason.Reason.{Reason}
-use Rattle.armcaps_top.specs.declared.reason.Reason.TheVariants.{Usage, Refused, Panicked, NotPatched, NotRead, NotJumped}
+use Rattle.armcaps_top.specs.declared.reason.Reason.TheVariants.{Usage, Refused, Panicked, NotPatched, NotRead, NotElf, NotLoaded, NotJumped}
 use Rattle.armcaps_top.specs.declared.refusal.Refusal.{Refusal}
 
 -- what the reason says of the answer that has it
@@ -47,6 +51,8 @@ IsOwn command (Panicked halt) = ⊥
 IsOwn command (NotPatched entry kind) = can_end command 8 ≡ true
 IsOwn command (NotRead refused) = can_end command 9 ≡ true
 IsOwn command (NotJumped refused) = can_end command 11 ≡ true
+IsOwn command (NotElf kind) = can_end command 10 ≡ true
+IsOwn command (NotLoaded entry kind) = can_end command 10 ≡ true
 
 own_status : (command : Option Command) (reason : Reason) → IsOwn command reason → can_end command (reason_status reason) ≡ true
 own_status command Usage own = absurd own
@@ -55,6 +61,8 @@ own_status command (Panicked halt) own = absurd own
 own_status command (NotPatched entry kind) own = own
 own_status command (NotRead refused) own = own
 own_status command (NotJumped refused) own = own
+own_status command (NotElf kind) own = own
+own_status command (NotLoaded entry kind) own = own
 
 some_stopped : (found : Document) (halt : Halt) → halt_in found ≡ Some halt → is_some_stopped (found ∷ []) ≡ true
 some_stopped found halt is = rw is refl
@@ -121,6 +129,38 @@ own_labels table count (Ok image) reason own is =
     own_label table count (nat_lt (length image) (table + 16 * count)) (first_label_refusal image table count) (jump_image image table count) reason is
 own_labels table count (Err refused) reason own is = own reason is
 
+-- a reason that comes of one of two, or of what is found, is a command's own where each of these is
+module _ (command : Command) where
+  own_or : (first second : Option Reason) → ((r : Reason) → first ≡ Some r → IsOwn (Some command) r) → ((r : Reason) → second ≡ Some r → IsOwn (Some command) r)
+      → (reason : Reason) → option_or first second ≡ Some reason → IsOwn (Some command) reason
+  own_or None second here later reason is = later reason is
+  own_or (Some one) second here later reason is = here reason is
+
+  own_map : {A : Type 0} (f : A → Reason) (found : Option A) → ((x : A) → IsOwn (Some command) (f x)) → (reason : Reason) → option_map f found ≡ Some reason
+      → IsOwn (Some command) reason
+  own_map f None each reason is = absurd (let no : ⊥ = cc in no)
+  own_map f (Some x) each reason is = let same : f x ≡ reason = cc in subst (λ (r : Reason). IsOwn (Some command) r) same (each x)
+
+  own_then : {A : Type 0} (f : A → Option Reason) (found : Option A) → ((x : A) (r : Reason) → f x ≡ Some r → IsOwn (Some command) r) → (reason : Reason)
+      → option_and_then f found ≡ Some reason → IsOwn (Some command) reason
+  own_then f None each reason is = absurd (let no : ⊥ = cc in no)
+  own_then f (Some x) each reason is = each x reason is
+
+  own_unless : (why : Option Reason) (text : List ℕ) → ((r : Reason) → why ≡ Some r → IsOwn (Some command) r) → (reason : Reason) → unless why text ≡ Err reason
+      → IsOwn (Some command) reason
+  own_unless None text each reason is = absurd (let no : ⊥ = cc in no)
+  own_unless (Some one) text each reason is = each reason (let same : one ≡ reason = cc in ap Some same)
+
+-- why an ELF file isn't written
+own_elf : (features : Features) (line : Layout) (file : List ℕ) (reason : Reason) → elf_reason features line file ≡ Some reason → IsOwn (Some Elf) reason
+unfolding elf_reason
+own_elf features line file =
+    own_or Elf (option_map NotElf (file_kind line file)) _ (own_map Elf NotElf (file_kind line file) (λ kind. refl))
+    (own_or Elf (refused_entry features (flat_image file) (table_in file)) (first_unloaded features file)
+    (own_map Elf not_patched (first_refusal features (flat_image file) (table_in file)) (λ refusal. refl))
+    (own_then Elf (λ (number : ℕ). option_map (NotLoaded number) (unloaded_at features file number)) _
+    (λ number. own_map Elf (NotLoaded number) (unloaded_at features file number) (λ kind. refl))))
+
 abbrev findings_of_document : Document → Findings
 findings_of_document found = findings_after found.reading.board (steps_of found)
 
@@ -148,6 +188,8 @@ fits (Some (Jump table count)) bytes given = fits_input (Jump table count) (docu
     (patch_output found.reading.board (steps_of found) found.reading found.image) reason
     (λ other. own_entry (Jump table count) (first_refusal (features_of_document found) found.image found.reading.layout)
     (patched_image (features_of_document found) found.image found.reading.layout) other refl))
+fits (Some Elf) bytes given = fits_input Elf (document bytes) refl refl (λ found. own_unless Elf (elf_reason (features_of_document found) found.reading.layout found.image)
+    (patched_file (features_of_document found) found.image) (own_elf (features_of_document found) found.reading.layout found.image))
 fits (Some (Demo seed cores)) bytes given =
     fits_found (Demo seed cores) (generated_document seed cores) (inr (demo_goes seed cores given.0)) (λ reason same. absurd (let no : ⊥ = cc in no))
 
@@ -158,6 +200,7 @@ stream_ends (Ask Trace) = (refl, refl, refl)
 stream_ends (Ask (Mrs core word)) = (refl, refl, refl)
 stream_ends Patch = (refl, refl, refl)
 stream_ends (Jump table count) = (refl, refl, refl)
+stream_ends Elf = (refl, refl, refl)
 stream_ends (Demo seed cores) = (refl, refl, refl)
 
 pub read_ends : (command : Command) → reads_input (Some command) ≡ true → can_end (Some command) 4 ≡ true
@@ -166,4 +209,5 @@ read_ends (Ask Trace) reads = refl
 read_ends (Ask (Mrs core word)) reads = refl
 read_ends Patch reads = refl
 read_ends (Jump table count) reads = refl
+read_ends Elf reads = refl
 read_ends (Demo seed cores) reads = absurd (let no : ⊥ = cc in no)

@@ -3,11 +3,13 @@ pub mod Brought
 pub mod CoreCounts
 pub mod Covered
 pub mod DocumentFields
+pub mod Elves
 pub mod Fitting
 pub mod Generated
 pub mod GeneratedSites
 pub mod Images
 pub mod Limits
+pub mod Loaded
 pub mod Outputs
 pub mod PatchedImages
 pub mod Performing

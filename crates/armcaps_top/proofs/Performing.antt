@@ -10,10 +10,11 @@ use Rattle.armcaps_text.specs.Formats.{format_of}
 use Rattle.armcaps_top.specs.Answer.{Answer, answer_of, of_document, output_in, refused, unless_stopped}
 use Rattle.armcaps_top.specs.Demo.{generated_document}
 use Rattle.armcaps_top.specs.Document.{Document, document, document_after, unless_refused}
-use Rattle.armcaps_top.specs.Inside.{AreCoresGiven, Comes, Ends, IsNotRead, IsNotUp, IsRead, IsRefusedSo, IsThrough, IsUp, Performs}
+use Rattle.armcaps_top.specs.Inside.{AreCoresGiven, Comes, Ends, IsNotRead, IsNotUp, IsRead, IsRefusedSo, IsThrough, IsUp, IsWhy, Performs}
+use Rattle.armcaps_top.specs.Patch.{unless}
 use Rattle.armcaps_top.specs.Run.{Change, EndsSo, most_read, reads_input}
 use Rattle.armcaps_top.specs.declared.commands.Command.{Command}
-use Rattle.armcaps_top.specs.declared.commands.Command.TheVariants.{Ask, Patch, Jump, Demo}
+use Rattle.armcaps_top.specs.declared.commands.Command.TheVariants.{Ask, Patch, Elf, Jump, Demo}
 use Rattle.armcaps_top.specs.declared.ending.Ending.{Ending}
 use Rattle.armcaps_top.specs.declared.ending.Ending.TheVariants.{Done, ReadFault, WriteFault, Memory, NoOutput}
 use Rattle.armcaps_top.specs.declared.reason.Reason.{Reason}
@@ -80,6 +81,16 @@ came_not command found old new reason up none is = record {
   machines_are = λ had. rw (one_left old new up.world up.left none) (up.through.machine, tt);
   safe = tt;
 }
+
+-- the same, or there was no memory
+pub came_why : (command : Command) (found : Document) (old new : List World) (why : Option Reason) (text : List ℕ) (ending : Ending) → IsUp found.reading old new
+    → old ≡ [] → output_in command found ≡ unless why text → IsWhy why ending → Comes (of_document command (Ok found)) new (Err ending)
+came_why command found old new why text Done up none is so = absurd so
+came_why command found old new why text ReadFault up none is so = absurd so
+came_why command found old new why text WriteFault up none is so = absurd so
+came_why command found old new why text Memory up none is so = no_memory (of_document command (Ok found)) new
+came_why command found old new why text (NoOutput reason) up none is so =
+    came_not command found old new reason up none (is ∙ ap (λ (w : Option Reason). unless w text) so)
 
 -- why a machine was not brought up
 pub not_up : (command : Command) (found : Document) (old new : List World) (ending : Ending) → IsNotUp found.reading old new ending → old ≡ []
@@ -179,6 +190,7 @@ answer_short : (command : Command) (bytes : List ℕ) (limit : ℕ) → length b
 answer_short (Ask query) bytes limit within is = document_short bytes limit within (of_refused (Ask query) (document bytes) (TooLong limit) is)
 answer_short Patch bytes limit within is = document_short bytes limit within (of_refused Patch (document bytes) (TooLong limit) is)
 answer_short (Jump table count) bytes limit within is = document_short bytes limit within (of_refused (Jump table count) (document bytes) (TooLong limit) is)
+answer_short Elf bytes limit within is = document_short bytes limit within (of_refused Elf (document bytes) (TooLong limit) is)
 answer_short (Demo seed cores) bytes limit within is =
     let no = of_refused (Demo seed cores) (Ok (generated_document seed cores)) (TooLong limit) is in absurd (let never : ⊥ = cc in never)
 

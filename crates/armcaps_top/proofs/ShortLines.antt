@@ -1,6 +1,6 @@
 -- The line of every ending fits the buffer of the error stream.
-use Rattle.std.proofs.Common.{◌≡◌, ℕ, ◌≤◌, ◌+◌, ◌/◌, ◌%◌, Bool, true, false, cond, ◌&&◌, List, [], ◌∷◌, length, refl, arith, lit≤, zero, suc, length-append}
-use Rattle.std.specs.Prelude.{nat_le, slice_get, codes, ◌==◌}
+use Rattle.std.proofs.Common.{◌≡◌, ℕ, ◌≤◌, ◌+◌, ◌/◌, ◌%◌, Bool, true, false, cond, ◌&&◌, Option, None, Some, List, [], ◌∷◌, length, refl, arith, lit≤, zero, suc, length-append}
+use Rattle.std.specs.Prelude.{nat_le, slice_get, codes, unwrap_or, ◌==◌}
 use Rattle.std.specs.Fmt.{decimal, digit_glyph, digits, digits_onto}
 use Rattle.std.specs.List.{list_all}
 use Rattle.std.specs.Option.{option_map_or}
@@ -19,6 +19,7 @@ use Rattle.armcaps_text.specs.Refusal.{kind_word, refusal_text}
 use Rattle.armcaps_text.specs.declared.kind.TextKind.{TextKind}
 use Rattle.armcaps_text.specs.declared.kind.TextKind.TheVariants.{Header, Unfinished, TextTooLong, UnknownLine, Order, Tokens, Number, Name, Twice, CoreNumber, TooMany, BootStep, Turn, Finalise, Incomplete, CmdlineTooLong, TableOutside}
 use Rattle.armcaps_top.specs.Document.{refused_text}
+use Rattle.armcaps_top.specs.Elf.{elf_entry_text, elf_kind_text, elf_word, elf_words}
 use Rattle.armcaps_top.specs.Ending.{ending_text, halt_text, reason_text}
 use Rattle.armcaps_top.specs.Jump.{label_kind_word, labels_refused_text}
 use Rattle.armcaps_top.specs.Mrs.{eight_digits, read_refused_text}
@@ -31,7 +32,7 @@ use Rattle.armcaps_top.specs.declared.commands.mrs.ReadRefused.TheVariants.{NotA
 use Rattle.armcaps_top.specs.declared.ending.Ending.{Ending}
 use Rattle.armcaps_top.specs.declared.ending.Ending.TheVariants.{Done, ReadFault, WriteFault, Memory, NoOutput}
 use Rattle.armcaps_top.specs.declared.reason.Reason.{Reason}
-use Rattle.armcaps_top.specs.declared.reason.Reason.TheVariants.{Usage, Refused, Panicked, NotRead, NotPatched, NotJumped}
+use Rattle.armcaps_top.specs.declared.reason.Reason.TheVariants.{Usage, Refused, Panicked, NotRead, NotPatched, NotElf, NotLoaded, NotJumped}
 use Rattle.armcaps_top.specs.declared.refusal.Refusal.{Refusal}
 use Rattle.armcaps_top.specs.declared.refusal.Refusal.TheVariants as refusal
 
@@ -122,6 +123,13 @@ label_kind_short kind = word_short (kind == 1) (kind == 2)
     word_short false true = lit≤ tt
     word_short false false = lit≤ tt
 
+elf_word_short : (kind : ℕ) → length (elf_word kind) ≤ 30
+elf_word_short kind = one_short (slice_get elf_words kind) (short_at (λ word. word) elf_words refl kind)
+  where
+    one_short : (word : Option (List ℕ)) → length (option_map_or (λ w. w) word []) ≤ 30 → length (unwrap_or word []) ≤ 30
+    one_short None short = short
+    one_short (Some word) short = short
+
 -- Texts: two numbers, a word, and what stands between them.
 
 cause_short : (cause : Cause) → length (cause_text cause) ≤ 100
@@ -149,12 +157,14 @@ labels_refused_short labels_refused.TableOutside = lit≤ tt
 labels_refused_short (labels_refused.Entry entry kind) = grind (arith, length-append, decimal_short, label_kind_short)
 
 reason_short : (reason : Reason) → length (reason_text reason) ≤ 240
-unfolding reason_text halt_text entry_text
+unfolding reason_text halt_text entry_text elf_entry_text elf_kind_text
 reason_short Usage = lit≤ tt
 reason_short (Refused why) = grind (arith, refused_short)
 reason_short (Panicked halt) = grind (arith, length-append, decimal_short, cause_short)
 reason_short (NotPatched entry kind) = grind (arith, length-append, decimal_short, patch_kind_short)
 reason_short (NotRead why) = grind (arith, length-append, read_refused_short)
+reason_short (NotElf kind) = grind (arith, length-append, decimal_short, elf_word_short)
+reason_short (NotLoaded entry kind) = grind (arith, length-append, decimal_short, elf_word_short)
 reason_short (NotJumped why) = grind (arith, length-append, labels_refused_short)
 
 ending_short : (ending : Ending) → length (ending_text ending) ≤ 240

@@ -12,11 +12,12 @@ use Rattle.armcaps_report.specs.Report.{report_of}
 use Rattle.armcaps_top.specs.Demo.{demo_output, generated_document}
 use Rattle.armcaps_top.specs.Document.{Document, document}
 use Rattle.armcaps_top.specs.Jump.{jump_output}
+use Rattle.armcaps_top.specs.Elf.{elf_output}
 use Rattle.armcaps_top.specs.Mrs.{read_output}
 use Rattle.armcaps_top.specs.Patch.{patch_output}
 use Rattle.armcaps_top.specs.Trace.{trace_of}
 use Rattle.armcaps_top.specs.declared.commands.Command.{Command}
-use Rattle.armcaps_top.specs.declared.commands.Command.TheVariants.{Ask, Patch, Jump, Demo}
+use Rattle.armcaps_top.specs.declared.commands.Command.TheVariants.{Ask, Patch, Elf, Jump, Demo}
 use Rattle.armcaps_top.specs.declared.commands.Query.{Query}
 use Rattle.armcaps_top.specs.declared.commands.Query.TheVariants.{Report, Mrs, Trace}
 use Rattle.armcaps_top.specs.declared.commands.mrs.ReadRefused.{ReadRefused}
@@ -54,6 +55,7 @@ output_in (Ask query) found = query_output query found.reading.board (steps_of f
 output_in Patch found = patch_output found.reading.board (steps_of found) found.reading found.image
 output_in (Jump table count) found =
     jump_output table count found.reading.board (steps_of found) found.reading found.image
+output_in Elf found = elf_output found.reading.board (steps_of found) found.reading found.image
 output_in (Demo seed cores) found =
     Ok (demo_output seed cores found.reading.board (steps_of found) found.reading found.image)
 
@@ -83,6 +85,7 @@ abbrev pub answer_of : Command → List ℕ → Answer
 answer_of (Ask query) input = of_document (Ask query) (document input)
 answer_of Patch input = of_document Patch (document input)
 answer_of (Jump table count) input = of_document (Jump table count) (document input)
+answer_of Elf input = of_document Elf (document input)
 answer_of (Demo seed cores) input = of_document (Demo seed cores) (Ok (generated_document seed cores))
 
 -- what words come to: those that are no form of a command bring no machine up

@@ -65,6 +65,12 @@ IsInstead output Memory = Unit {0}
 IsInstead output (NoOutput reason) = output ≡ Err reason
 IsInstead output _ = ⊥
 
+-- the run ends so for this reason, if there is one, unless memory ran out
+abbrev pub IsWhy : Option Reason → Ending → Type 0
+IsWhy why Memory = Unit {0}
+IsWhy why (NoOutput reason) = why ≡ Some reason
+IsWhy why _ = ⊥
+
 -- the machine of a reading, all of whose steps were made, and none of which stopped it
 pub record IsThrough (reading : Reading) (world : World) : Type 0 where
   pub machine : IsAfter reading.board (steps_made reading.board (history reading.steps)) world

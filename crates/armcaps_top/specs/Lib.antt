@@ -3,6 +3,7 @@ pub mod Commands
 pub mod Mrs
 pub mod Trace
 pub mod Patch
+pub mod Elf
 pub mod Jump
 pub mod Demo
 pub mod Answer

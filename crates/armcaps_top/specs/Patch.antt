@@ -1,7 +1,9 @@
 -- What `patch` writes: the image with its selected alternatives, or why it writes none.
 use Rattle.std.specs.Prelude.{ℕ, ◌++◌, List, Option, Some, None, Result, Ok, Err, codes}
 use Rattle.std.specs.Fmt.{decimal}
+use Rattle.std.specs.Option.{option_map}
 use Rattle.armcaps_alt.specs.declared.patch_kind.PatchKind.{PatchKind}
+use Rattle.armcaps_alt.specs.declared.table_place.Layout.{Layout}
 use Rattle.armcaps_alt.specs.Entries.{Features}
 use Rattle.armcaps_alt.specs.Patched.{patched_image}
 use Rattle.armcaps_alt.specs.Refusals as alternatives
@@ -19,10 +21,22 @@ unfoldable pub entry_text : ℕ → PatchKind → List ℕ
 entry_text entry kind =
     codes "entry " ++ decimal entry ++ codes ": kind " ++ decimal (kind_number kind) ++ codes " " ++ kind_word kind
 
+-- why no image is written, where this entry is refused
+abbrev pub not_patched : alternatives.Refusal → Reason
+not_patched refusal = NotPatched refusal.entry refusal.kind
+
+-- the same of the first entry of an image's table that is refused
+abbrev pub refused_entry : Features → List ℕ → Layout → Option Reason
+refused_entry features image layout = option_map not_patched (first_refusal features image layout)
+
+-- what is written, unless there is a reason why it isn't
+abbrev pub unless : Option Reason → List ℕ → Result (List ℕ) Reason
+unless None written = Ok written
+unless (Some reason) written = Err reason
+
 -- the image, unless an entry is refused
 abbrev pub unless_entry_refused : Option alternatives.Refusal → List ℕ → Result (List ℕ) Reason
-unless_entry_refused None image = Ok image
-unless_entry_refused (Some refusal) image = Err (NotPatched refusal.entry refusal.kind)
+unless_entry_refused refusal image = unless (option_map not_patched refusal) image
 
 -- the image patched by what the machine has
 abbrev pub patched_by : Features → Reading → List ℕ → Result (List ℕ) Reason

@@ -14,7 +14,7 @@ use Rattle.armcaps_top.specs.Document.{Document}
 use Rattle.armcaps_top.specs.Ending.{output_status, status_of}
 use Rattle.armcaps_top.specs.Telling.{Tells}
 use Rattle.armcaps_top.specs.declared.commands.Command.{Command}
-use Rattle.armcaps_top.specs.declared.commands.Command.TheVariants.{Ask, Patch, Jump, Demo}
+use Rattle.armcaps_top.specs.declared.commands.Command.TheVariants.{Ask, Patch, Elf, Jump, Demo}
 use Rattle.armcaps_top.specs.declared.commands.Query.TheVariants.{Report, Mrs, Trace}
 use Rattle.armcaps_top.specs.declared.ending.Ending.{Ending}
 use Rattle.armcaps_top.specs.declared.ending.Ending.TheVariants.{Done, ReadFault, WriteFault, Memory, NoOutput}
@@ -29,6 +29,7 @@ most_read None = 0
 most_read (Some (Ask query)) = 537919489
 most_read (Some Patch) = 537919489
 most_read (Some (Jump table count)) = 537919489
+most_read (Some Elf) = 537919489
 most_read (Some (Demo seed cores)) = 0
 
 -- the command reads its input
@@ -43,6 +44,7 @@ statuses_of (Some (Ask Trace)) = 0 ∷ 3 ∷ 4 ∷ 5 ∷ 6 ∷ 7 ∷ []
 statuses_of (Some (Ask (Mrs core word))) = 0 ∷ 3 ∷ 4 ∷ 5 ∷ 6 ∷ 7 ∷ 9 ∷ []
 statuses_of (Some Patch) = 0 ∷ 3 ∷ 4 ∷ 5 ∷ 6 ∷ 7 ∷ 8 ∷ []
 statuses_of (Some (Jump table count)) = 0 ∷ 3 ∷ 4 ∷ 5 ∷ 6 ∷ 7 ∷ 8 ∷ 11 ∷ []
+statuses_of (Some Elf) = 0 ∷ 3 ∷ 4 ∷ 5 ∷ 6 ∷ 7 ∷ 8 ∷ 10 ∷ []
 statuses_of (Some (Demo seed cores)) = 0 ∷ 5 ∷ 6 ∷ []
 
 -- the status can come under the command

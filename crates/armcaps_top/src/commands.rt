@@ -9,6 +9,7 @@ ghost use Rattle.armcaps_top.specs.Inside.{AreCoresGiven};
 pub mod ask;
 pub mod demo;
 pub mod jump;
+pub mod elf;
 pub mod mrs;
 pub mod patch;
 pub mod report;
@@ -38,6 +39,8 @@ pub enum Command {
     /// The image, patched for the machine, with the jump labels of so many entries applied, whose table begins at a
     /// place of the image.
     Jump { table: u32, count: u32 },
+    /// The ELF file, patched for the machine.
+    Elf,
     /// What comes of a machine with so many cores and of its image, both made from a seed.
     Demo { seed: u32, cores: u32 },
 }
@@ -67,6 +70,8 @@ fn command_named(name: &str) -> Option<Command>
         Some(Command::Patch)
     } else if name == "trace" {
         Some(Command::Ask(Query::Trace))
+    } else if name == "elf" {
+        Some(Command::Elf)
     } else {
         None
     }

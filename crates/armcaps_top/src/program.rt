@@ -10,6 +10,7 @@ ghost use Rattle.armcaps_top.specs.Run.{Promises, change, reads_input};
 use crate::commands::Command;
 use crate::commands::ask::ask;
 use crate::commands::demo::demo;
+use crate::commands::elf::elf;
 use crate::commands::jump::jump;
 use crate::commands::patch::patch;
 use crate::ending::Ending;
@@ -38,6 +39,7 @@ fn answer<O: Sink>(
     match command {
         Command::Ask(query) => write_text(out, ask(alloc, query, bytes, machines)),
         Command::Patch => patch(alloc, bytes, out, machines),
+        Command::Elf => elf(alloc, bytes, out, machines),
         Command::Jump { table, count } => jump(alloc, table, count, bytes, out, machines),
         Command::Demo { seed, cores } => write_text(out, demo(alloc, seed, cores, machines)),
     }
@@ -65,13 +67,13 @@ fn perform<S: Source, O: Sink>(
 }
 
 /// Runs the program: `words` is the command line without the program's name. Where they are `report`, `patch`,
-/// `mrs CORE WORD`, `trace` or `jump OFFSET COUNT`, reads a document from `input`, makes its steps and writes to `out`
-/// the report, the image patched for the machine, what a program on the core reads by the instruction, the trace of the
-/// steps, or the patched image with its jump labels applied, which the table of COUNT entries at OFFSET has. Where they
-/// are `demo SEED CORES`, reads nothing, makes a machine and its image from the seed, and writes what comes of both:
-/// only the statuses 0, 5 and 6 come. Every other status than 0 has a line on `err`. `machines` has to be empty, and
-/// gets the machine that was brought up: one in the statuses 0, 5 and 7 to 11, and none in 2 to 4. Of no input more than
-/// 537,919,489 bytes are read.
+/// `mrs CORE WORD`, `trace`, `elf` or `jump OFFSET COUNT`, reads a document from `input`, makes its steps and writes to
+/// `out` the report, the image patched for the machine, what a program on the core reads by the instruction, the trace of
+/// the steps, the ELF file that the image is, patched for the machine, or the patched image with its jump labels applied,
+/// which the table of COUNT entries at OFFSET has. Where they are `demo SEED CORES`, reads nothing, makes a machine and its
+/// image from the seed, and writes what comes of both: only the statuses 0, 5 and 6 come. Every other status than 0 has a
+/// line on `err`. `machines` has to be empty, and gets the machine that was brought up: one in the statuses 0, 5 and 7 to
+/// 11, and none in 2 to 4. Of no input more than 537,919,489 bytes are read.
 ///
 /// - 0: done.
 /// - 2: the words are no form. They are judged without memory, and nothing is read.
@@ -84,6 +86,7 @@ fn perform<S: Source, O: Sink>(
 /// - 7: a step stops the machine.
 /// - 8: an entry of the table of alternatives is refused.
 /// - 9: the core of `mrs` is not admitted, or its word reads no register.
+/// - 10: the image of `elf` is refused as an ELF file of a kernel, or an entry that is selected isn't loaded.
 /// - 11: the table of jump labels does not lie within the image, or an entry of it is refused.
 pub fn run<S: Source, O: Sink, E: Sink>(
     alloc: Global,

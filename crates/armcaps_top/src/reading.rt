@@ -79,7 +79,9 @@ pub fn read_for<S: Source>(
     ensures untouched { reads_input (Some command) ≡ false → source.new ≡ source.old }
 {
     match command {
-        Command::Ask(_) | Command::Patch | Command::Jump { .. } => read_input(alloc, source),
+        Command::Ask(_) | Command::Patch | Command::Elf | Command::Jump { .. } => {
+            read_input(alloc, source)
+        }
         Command::Demo { .. } => Ok(Vec::new(alloc)),
     }
 }

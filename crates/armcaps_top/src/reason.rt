@@ -19,6 +19,11 @@ pub enum Reason {
     NotPatched { entry: u32, kind: PatchKind },
     /// A program reads nothing there.
     NotRead(ReadRefused),
+    /// The ELF file is refused for this kind: 1 header, 2 sections, 3 outside, 4 name, 5 no-table, 6 two-tables, 7
+    /// overlap, 8 span, 9 table-size, 10 table-line.
+    NotElf { kind: u8 },
+    /// This selected entry is the first that has a byte that isn't loaded: 11, of its site, or 12, of its replacement.
+    NotLoaded { entry: u32, kind: u8 },
     /// No jump labels are applied to the patched image.
     NotJumped(LabelsRefused),
 }
@@ -37,6 +42,7 @@ impl Reason {
             Reason::Panicked(_) => 7,
             Reason::NotPatched { .. } => 8,
             Reason::NotRead(_) => 9,
+            Reason::NotElf { .. } | Reason::NotLoaded { .. } => 10,
             Reason::NotJumped(_) => 11,
         }
     }

@@ -6,6 +6,7 @@ ghost use Rattle.std.specs.Fmt.{decimal};
 ghost use Rattle.armcaps_report.specs.Extending.{Extends};
 ghost use Rattle.armcaps_report.specs.Texts.{cause_text};
 ghost use Rattle.armcaps_top.specs.Document.{refused_text};
+ghost use Rattle.armcaps_top.specs.Elf.{elf_entry_text, elf_kind_text, elf_word};
 ghost use Rattle.armcaps_top.specs.Ending.{ending_text, halt_text, reason_text};
 ghost use Rattle.armcaps_top.specs.Jump.{label_kind_word, labels_refused_text};
 ghost use Rattle.armcaps_top.specs.Mrs.{eight_digits, read_refused_text};
@@ -76,12 +77,14 @@ fn push_reason<T: Text>(text: &mut T, reason: Reason) -> Result<(), T::Error>
 {
     match reason {
         Reason::Usage => text.append(
-            "usage: armcaps report | patch | mrs CORE WORD | demo SEED CORES | trace | jump OFFSET COUNT",
+            "usage: armcaps report | patch | mrs CORE WORD | demo SEED CORES | trace | elf | jump OFFSET COUNT",
         ),
         Reason::Refused(refusal) => push_refusal(text, refusal),
         Reason::Panicked(halt) => push_panic(text, halt),
         Reason::NotPatched { entry, kind } => push_not_patched(text, entry, kind),
         Reason::NotRead(unread) => push_not_read(text, unread),
+        Reason::NotElf { kind } => push_not_elf(text, kind),
+        Reason::NotLoaded { entry, kind } => push_not_loaded(text, entry, kind),
         Reason::NotJumped(refused) => push_not_jumped(text, refused),
     }
 }
@@ -144,6 +147,45 @@ fn push_not_patched<T: Text>(text: &mut T, entry: u32, kind: PatchKind) -> Resul
     ensures { Extends result T.refused_from (T.bytes text.old) (T.bytes text.new) (codes "patch: " ++ entry_text entry kind) }
 {
     push_kind(text, "patch: entry ", entry, kind.number(), kind.word())
+}
+
+// Adds why an ELF file is refused.
+#[tactic(auto, unfolding(crate::specs::Elf::elf_kind_text))]
+fn push_not_elf<T: Text>(text: &mut T, kind: u8) -> Result<(), T::Error>
+    ensures { Extends result T.refused_from (T.bytes text.old) (T.bytes text.new) (codes "elf: " ++ elf_kind_text kind) }
+{
+    push_between(text, "elf: kind ", u64::from(kind), " ")?;
+    text.append(elf_word(kind))
+}
+
+// Adds which entry of an ELF file isn't loaded, and why.
+#[tactic(auto, unfolding(crate::specs::Elf::elf_entry_text, crate::specs::Elf::elf_kind_text))]
+fn push_not_loaded<T: Text>(text: &mut T, entry: u32, kind: u8) -> Result<(), T::Error>
+    ensures { Extends result T.refused_from (T.bytes text.old) (T.bytes text.new)
+        (codes "elf: " ++ elf_entry_text entry kind) }
+{
+    push_kind(text, "elf: entry ", entry, kind, elf_word(kind))
+}
+
+// The word of a kind for which an ELF file is refused.
+fn elf_word(kind: u8) -> &'static str
+    ensures { result.now ≡ elf_word kind }
+{
+    match kind {
+        1 => "header",
+        2 => "sections",
+        3 => "outside",
+        4 => "name",
+        5 => "no-table",
+        6 => "two-tables",
+        7 => "overlap",
+        8 => "span",
+        9 => "table-size",
+        10 => "table-line",
+        11 => "site",
+        12 => "replacement",
+        _ => "",
+    }
 }
 
 // Adds why there is no image with jump labels.

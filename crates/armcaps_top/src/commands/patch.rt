@@ -1,19 +1,19 @@
 //! `patch`: the image, patched for the machine.
 
-ghost use Rattle.std.specs.Prelude.{◌≡◌, ◌≤◌, IfOk, [], drop, length};
+ghost use Rattle.std.specs.Prelude.{◌≡◌, ◌+◌, ◌*◌, ◌≤◌, ◌^◌, IfErr, IfOk, [], drop, length, true};
 ghost use Rattle.armcaps_alt.specs.Entries.{Features};
 ghost use Rattle.armcaps_alt.specs.Patched.{patched_image};
 ghost use Rattle.armcaps_alt.specs.declared.table_place.Layout.{Layout as Place};
 ghost use Rattle.armcaps_board.specs.Steps.{history};
 ghost use Rattle.armcaps_boot.specs.Findings.{findings_after};
-ghost use Rattle.armcaps_patch.specs.Features.{features_of_findings};
+ghost use Rattle.armcaps_patch.specs.Features.{features_of, features_of_findings};
 ghost use Rattle.armcaps_patch.specs.Kept.{StandsFor};
 ghost use Rattle.armcaps_text.specs.Document.{reading_of};
 ghost use Rattle.armcaps_text.specs.Formats.{format_of};
 ghost use Rattle.armcaps_text.specs.Sound.{IsSound};
 ghost use Rattle.armcaps_top.specs.Answer.{answer_of, of_document};
-ghost use Rattle.armcaps_top.specs.Inside.{Comes, Ends, as_bytes};
-ghost use Rattle.armcaps_top.specs.Patch.{image_for};
+ghost use Rattle.armcaps_top.specs.Inside.{Comes, Ends, IsWhy, as_bytes};
+ghost use Rattle.armcaps_top.specs.Patch.{image_for, refused_entry};
 ghost use Rattle.armcaps_top.specs.Run.{change};
 ghost use Rattle.armcaps_top.specs.declared.commands.Command.TheVariants as Command;
 
@@ -22,11 +22,35 @@ use crate::document::machine_of;
 use crate::ending::Ending;
 use crate::kept_bytes::KeptBytes;
 use crate::reason::Reason;
+use armcaps_alt::{Layout, Names};
 use armcaps_boot::Boot;
 use armcaps_io::Sink;
 use armcaps_patch::{PatchRefused, Plan};
 use armcaps_text::Machine;
 use std::alloc::{AllocError, Global};
+
+/// Plans the patched image, or says why there is none.
+pub fn check(
+    alloc: Global,
+    image: &[u8],
+    layout: Layout,
+    names: &Names,
+    boot: &Boot,
+) -> Result<Plan, Ending>
+    requires size { length image.now ≤ 2 ^ 29 }
+    requires table { layout.table + 12 * layout.count ≤ length image.now }
+    requires finalised { boot.now.final ≡ true }
+    ensures stands { IfOk result (λ plan. StandsFor plan (features_of boot.now names.now) image.now layout) }
+    ensures refused { IfErr result (IsWhy (refused_entry (features_of boot.now names.now) image.now layout)) }
+{
+    match Plan::check(alloc, image, layout, names, boot) {
+        Ok(plan) => Ok(plan),
+        Err(PatchRefused::Entry { entry, kind }) => {
+            Err(Ending::NoOutput(Reason::NotPatched { entry, kind }))
+        }
+        Err(PatchRefused::Memory) => Err(Ending::Memory),
+    }
+}
 
 /// Brings the machine up, and plans its patched image.
 pub fn plan_of(
@@ -46,13 +70,7 @@ pub fn plan_of(
 {
     let layout = machine.layout;
     let names = bring(alloc, machine, machines)?;
-    match Plan::check(alloc, image, layout, &names, only(machines)) {
-        Ok(plan) => Ok(plan),
-        Err(PatchRefused::Entry { entry, kind }) => {
-            Err(Ending::NoOutput(Reason::NotPatched { entry, kind }))
-        }
-        Err(PatchRefused::Memory) => Err(Ending::Memory),
-    }
+    check(alloc, image, layout, &names, only(machines))
 }
 
 /// The image that a plan makes.
