@@ -8,8 +8,8 @@ ghost use Rattle.armcaps_top.specs.Inside.{AreCoresGiven};
 
 pub mod ask;
 pub mod demo;
-pub mod jump;
 pub mod elf;
+pub mod jump;
 pub mod mrs;
 pub mod patch;
 pub mod report;
