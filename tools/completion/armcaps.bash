@@ -8,7 +8,7 @@ _armcaps() {
     armcaps-kernel2text) options='--image --nm --caps --vmlinux --running --on --off --conduit --callback --padded --rules --help --version' ;;
     armcaps-patch-diff) options='--nm --all --site --help --version' ;;
     *)
-        [ "$COMP_CWORD" = 1 ] && COMPREPLY=($(compgen -W 'report patch mrs demo trace jump' -- "$word"))
+        [ "$COMP_CWORD" = 1 ] && COMPREPLY=($(compgen -W 'report patch mrs demo trace elf jump' -- "$word"))
         return ;;
     esac
     case $before in
