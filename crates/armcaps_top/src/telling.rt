@@ -6,7 +6,7 @@ ghost use Rattle.std.specs.Fmt.{decimal};
 ghost use Rattle.armcaps_report.specs.Extending.{Extends};
 ghost use Rattle.armcaps_report.specs.Texts.{cause_text};
 ghost use Rattle.armcaps_top.specs.Document.{refused_text};
-ghost use Rattle.armcaps_top.specs.Elf.{elf_entry_text, elf_kind_text, elf_word};
+ghost use Rattle.armcaps_top.specs.Elf.{elf_entry_text, elf_kind_text};
 ghost use Rattle.armcaps_top.specs.Ending.{ending_text, halt_text, reason_text};
 ghost use Rattle.armcaps_top.specs.Jump.{label_kind_word, labels_refused_text};
 ghost use Rattle.armcaps_top.specs.Mrs.{eight_digits, read_refused_text};
@@ -15,6 +15,7 @@ ghost use Rattle.armcaps_top.specs.Telling.{Tells, ending_line};
 ghost use Rattle.armcaps_top.specs.declared.commands.mrs.ReadRefused.TheVariants as read_refused;
 ghost use Rattle.armcaps_top.specs.declared.refusal.Refusal.TheVariants as Refusal;
 
+use crate::commands::elf::elf_word;
 use crate::commands::jump::LabelsRefused;
 use crate::commands::mrs::ReadRefused;
 use crate::ending::Ending;
@@ -165,27 +166,6 @@ fn push_not_loaded<T: Text>(text: &mut T, entry: u32, kind: u8) -> Result<(), T:
         (codes "elf: " ++ elf_entry_text entry kind) }
 {
     push_kind(text, "elf: entry ", entry, kind, elf_word(kind))
-}
-
-// The word of a kind for which an ELF file is refused.
-fn elf_word(kind: u8) -> &'static str
-    ensures { result.now ≡ elf_word kind }
-{
-    match kind {
-        1 => "header",
-        2 => "sections",
-        3 => "outside",
-        4 => "name",
-        5 => "no-table",
-        6 => "two-tables",
-        7 => "overlap",
-        8 => "span",
-        9 => "table-size",
-        10 => "table-line",
-        11 => "site",
-        12 => "replacement",
-        _ => "",
-    }
 }
 
 // Adds why there is no image with jump labels.

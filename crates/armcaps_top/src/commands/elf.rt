@@ -13,7 +13,7 @@ ghost use Rattle.armcaps_text.specs.Document.{reading_of};
 ghost use Rattle.armcaps_text.specs.Formats.{format_of};
 ghost use Rattle.armcaps_text.specs.Sound.{IsSound};
 ghost use Rattle.armcaps_top.specs.Answer.{answer_of, of_document};
-ghost use Rattle.armcaps_top.specs.Elf.{elf_reason, file_kind, first_unloaded, is_loaded, table_in, unloaded_kind, unloaded_of};
+ghost use Rattle.armcaps_top.specs.Elf.{elf_reason, elf_word, file_kind, first_unloaded, is_loaded, table_in, unloaded_kind, unloaded_of};
 ghost use Rattle.armcaps_top.specs.Inside.{Comes, Ends, IsWhy, as_bytes};
 ghost use Rattle.armcaps_top.specs.Run.{change};
 ghost use Rattle.armcaps_top.specs.declared.commands.Command.TheVariants as Command;
@@ -33,6 +33,27 @@ use armcaps_io::Sink;
 use armcaps_patch::{enabled_on, entry_at};
 use armcaps_text::Machine;
 use std::alloc::Global;
+
+/// The word of a kind for which an ELF file is refused.
+pub fn elf_word(kind: u8) -> &'static str
+    ensures { result.now ≡ elf_word kind }
+{
+    match kind {
+        1 => "header",
+        2 => "sections",
+        3 => "outside",
+        4 => "name",
+        5 => "no-table",
+        6 => "two-tables",
+        7 => "overlap",
+        8 => "span",
+        9 => "table-size",
+        10 => "table-line",
+        11 => "site",
+        12 => "replacement",
+        _ => "",
+    }
+}
 
 // Reads an ELF file, whose document has this line of a table, or says why it is refused.
 fn read(alloc: Global, file: &[u8], line: Layout) -> Result<Elf, Ending>
