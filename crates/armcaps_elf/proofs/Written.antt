@@ -1,19 +1,21 @@
 -- The file with a flat image in it, piece after piece.
 use Rattle.std.proofs.Common.{◌≡◌, ◌⊎◌, ◌+◌, ◌-◌, ◌<◌, ◌≤◌, ◌&&◌, ◌++◌, ℕ, Err, List, Ok, OnErr, OnOk, Option, Result, Some, [], ◌∷◌, ap, append_assoc, arith, drop, false, get_or, inl, inr, length, length-drop, length-take, map, nat_le, nat_lt, refl, subst, sym, take, true, ◌∙◌}
-use Rattle.std.specs.List.{All, AllPairs}
+use Rattle.std.specs.List.{All, AllPairs, range_with_len}
 use Rattle.std.specs.List.Sorted.{IsPermutation}
 use Rattle.std.specs.Option.{option_map_or}
 use Rattle.std.proofs.lemmas.Bool.{cases_lt}
 use Rattle.std.proofs.lemmas.Bool.Decides.{nat_tests}
-use Rattle.std.proofs.lemmas.List.{get_or-drop, get_or-take}
-use Rattle.std.proofs.lemmas.List.Sorted.{IsPermutation-refl}
+use Rattle.std.proofs.lemmas.List.{get_or-drop, get_or-take, get_or_default}
+use Rattle.std.proofs.lemmas.List.Sorted.{IsPermutation-refl, IsPermutation-trans}
 use Rattle.armcaps_io.proofs.StreamLemmas.{Appends-trans}
 use Rattle.armcaps_io.proofs.Sent.{piece_bytes, pieces_join, prefix_behind, sent_more}
 use Rattle.armcaps_io.specs.Pieces.{bytes_from}
 use Rattle.armcaps_io.specs.Streams.{Appends, AppendsPrefix}
 use Rattle.armcaps_elf.specs.declared.section.Section.{Section}
-use Rattle.armcaps_elf.specs.Images.{put_byte}
+use Rattle.armcaps_elf.specs.Headers.{sections_of}
+use Rattle.armcaps_elf.specs.Images.{put_byte, put_image}
 use Rattle.armcaps_elf.specs.Sections.{Follows, holds}
+use Rattle.armcaps_elf.specs.Standing.{Loaded, StandsFor}
 use Rattle.armcaps_elf.proofs.Holding.{find_held, find_none, find_same}
 
 -- a first part of two pieces is one of the first piece, or the first piece and a first part of the second
@@ -152,6 +154,39 @@ module _ (ys : List Section) (base : ℕ) (file flat : List ℕ) where
       gap_is done (length file - done) (omega arith) (λ j low. none_between done index (done + j) so (omega arith)
       (λ d short. absurd (omega arith)) follow)
 
+  -- what is written before the next section, and with it
+  pub record IsNext (done index : ℕ) (x : Section) : Type 0 where
+    pub start : done ≤ x.place
+    pub inside : x.place + x.size ≤ length file
+    pub piece : take (x.place - done) (drop done file) ++ take x.size (drop (x.address - base) flat) ≡ bytes_from byte done (x.place + x.size - done)
+    pub between : IsBetween (x.place + x.size) (index + 1)
+
+  pub next_is : (done index : ℕ) (d : Section) → AllPairs (Follows place_of) ys → All (λ y. y.place + y.size ≤ length file) ys
+      → All (λ y. base ≤ y.address) ys → All (λ y. y.address + y.size ≤ base + length flat) ys → IsBetween done index → index < length ys
+      → IsNext done index (get_or ys index d)
+  next_is done index d follow inside above below so within =
+      let x = get_or ys index d in
+      let same : (e : Section) → get_or ys index e ≡ x = λ e. get_or_default ys index e d within in record {
+        start = so.behind index d (omega arith) within;
+        inside = inside index d within;
+        piece = piece_is done index x follow within same so (inside index d within) (above index d within) (below index d within);
+        between = between_more done index x follow within same so;
+      }
+
+  -- the rest of the file behind the last section
+  module _ {T E : Type 0} (sent : Result T E) (a b c : Option (List ℕ)) (done index : ℕ) (all : length ys ≤ index) (within : done ≤ length file) (so : IsBetween done index)
+      (follow : AllPairs (Follows place_of) ys) (before : Appends a b (bytes_from byte 0 done)) where
+    abbrev rest : List ℕ
+    rest = take (length file - done) (drop done file)
+
+    pub last_sent : OnOk sent (Appends b c rest) → OnOk sent (Appends a c (bytes_from byte 0 (length file)))
+    last_sent more = on_ok sent (sent_piece a b c byte done (length file - done) (length file) rest (rest_is done index all within so follow)
+        (omega (arith, within)) before) more
+
+    pub last_cut : OnErr sent (AppendsPrefix b c rest) → OnErr sent (AppendsPrefix a c (bytes_from byte 0 (length file)))
+    last_cut more = on_err sent (prefix_piece a b c byte done (length file - done) (length file) rest (rest_is done index all within so follow)
+        (omega (arith, within)) before) more
+
 map_same : {X Y : Type 0} (f g : X → Y) (xs : List X) → ((x : X) → f x ≡ g x) → map f xs ≡ map g xs
 map_same f g [] same = refl
 map_same f g (x ∷ xs) same = rw (same x, map_same f g xs same) refl
@@ -163,3 +198,11 @@ put_same xs ys base file flat places moved follow =
     map_same (put_byte ys base file flat) (put_byte xs base file flat) places (λ place.
     ap (λ (found : Option Section). option_map_or (λ s. get_or flat (s.address + (place - s.place) - base) 0) found (get_or file place 0))
     (find_same place_of place xs ys moved follow))
+
+-- what is written of the sections in the order of their places is the file with the flat image in it
+pub put_is : (loaded : Loaded) (ys : List Section) (base : ℕ) (file flat : List ℕ) → StandsFor loaded file → IsPermutation loaded.sections ys
+    → AllPairs (Follows place_of) ys → base ≡ loaded.base → map (put_byte ys base file flat) (range_with_len 0 (length file)) ≡ put_image file flat
+put_is loaded ys base file flat stands moved follow same =
+    let places = range_with_len 0 (length file) in
+    put_same (sections_of file) ys base file flat places (IsPermutation-trans _ _ _ stands.sections moved) follow
+    ∙ ap (λ b. map (put_byte (sections_of file) b file flat) places) (same ∙ stands.base)

@@ -1,11 +1,8 @@
-use Rattle.std.proofs.Common.{◌+◌, ◌≤◌, ap, arith, length, map, subst, ◌∙◌}
-use Rattle.std.specs.List.{range_with_len}
-use Rattle.std.proofs.lemmas.List.Sorted.{All-permutation, IsPermutation-trans}
+use Rattle.std.proofs.Common.{◌+◌, ◌≤◌, arith, length, subst}
+use Rattle.std.proofs.lemmas.List.Sorted.{All-permutation}
 use Rattle.armcaps_io.specs.Streams.{Appends, AppendsPrefix}
 use Rattle.armcaps_elf.specs.declared.section.Section.{Section}
-use Rattle.armcaps_elf.specs.Headers.{sections_of}
-use Rattle.armcaps_elf.specs.Images.{put_byte}
-use Rattle.armcaps_elf.proofs.Written.{on_err, on_ok, put_same}
+use Rattle.armcaps_elf.proofs.Written.{on_err, on_ok, put_is}
 use Rattle.armcaps_elf.proofs.elf.Elf.write_back.Goals as goal
 
 pub write_sections-requires-clause-inside : goal.write_sections-requires-clause-inside
@@ -21,22 +18,10 @@ write_sections-requires-clause-below g c = λ k d within.
 
 pub returns-clause-whole : goal.returns-clause-whole
 returns-clause-whole g c =
-    let file = c.args.file.now in
-    let places = range_with_len 0 (length file) in
-    let ys = c.in_file_order.result.now in
-    let moved = IsPermutation-trans _ _ _ c.requires.stands.sections c.in_file_order.ensures.same in
-    let base = c.base.ensures ∙ c.requires.stands.base in
-    let same = put_same (sections_of file) ys c.base.result file c.args.flat.now places moved c.in_file_order.ensures.rise
-    ∙ ap (λ b. map (put_byte (sections_of file) b file c.args.flat.now) places) base in
-    on_ok c.write_sections.result (subst (Appends _ _) same) c.write_sections.ensures.whole
+    on_ok c.write_sections.result (subst (Appends _ _) (put_is c.args.self.now c.in_file_order.result.now c.base.result c.args.file.now c.args.flat.now
+    c.requires.stands c.in_file_order.ensures.same c.in_file_order.ensures.rise c.base.ensures)) c.write_sections.ensures.whole
 
 pub returns-clause-prefix : goal.returns-clause-prefix
 returns-clause-prefix g c =
-    let file = c.args.file.now in
-    let places = range_with_len 0 (length file) in
-    let ys = c.in_file_order.result.now in
-    let moved = IsPermutation-trans _ _ _ c.requires.stands.sections c.in_file_order.ensures.same in
-    let base = c.base.ensures ∙ c.requires.stands.base in
-    let same = put_same (sections_of file) ys c.base.result file c.args.flat.now places moved c.in_file_order.ensures.rise
-    ∙ ap (λ b. map (put_byte (sections_of file) b file c.args.flat.now) places) base in
-    on_err c.write_sections.result (subst (AppendsPrefix _ _) same) c.write_sections.ensures.prefix
+    on_err c.write_sections.result (subst (AppendsPrefix _ _) (put_is c.args.self.now c.in_file_order.result.now c.base.result c.args.file.now
+    c.args.flat.now c.requires.stands c.in_file_order.ensures.same c.in_file_order.ensures.rise c.base.ensures)) c.write_sections.ensures.prefix
