@@ -15,6 +15,7 @@ pub mod PatchedImages
 pub mod Performing
 pub mod Promising
 pub mod ShortLines
+pub mod Sites
 pub mod SmallNumbers
 pub mod Steps
 pub mod Tallies

@@ -16,9 +16,10 @@ ghost use Rattle.armcaps_text.specs.Sound.{IsSound};
 ghost use Rattle.armcaps_top.specs.Demo.{generated_document};
 ghost use Rattle.armcaps_top.specs.Document.{Document, document};
 ghost use Rattle.armcaps_top.specs.Answer.{admitted_in, output_in};
-ghost use Rattle.armcaps_top.specs.Laws.{IsLabelled};
+ghost use Rattle.armcaps_top.specs.Laws.{ChangesSites, IsLabelled};
 ghost use Rattle.armcaps_top.specs.declared.commands.Command.TheVariants as Command;
 
+use armcaps_elf::changed_byte_is_loaded;
 use armcaps_jump::the_last_entry_chooses;
 use armcaps_text::laws::{generated_machines_are_sound, readings_are_sound};
 
@@ -57,4 +58,12 @@ pub fn labels_choose_words()
         → output_in (Command.Jump table count) found ≡ Ok text → IsLabelled found table count text }
 {
     the_last_entry_chooses();
+}
+
+/// Where `elf` writes something of a document, that is as long as the document's ELF file, and each byte of it that is
+/// another than the file's lies in a loaded section, and at its address in the site of a selected entry.
+pub fn changed_bytes_lie_in_sites()
+    ensures { (found : Document) (text : List ℕ) → output_in Command.Elf found ≡ Ok text → ChangesSites found text }
+{
+    changed_byte_is_loaded();
 }
