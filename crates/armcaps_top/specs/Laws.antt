@@ -4,7 +4,6 @@ use Rattle.std.specs.List.{Contains}
 use Rattle.armcaps_alt.specs.declared.table_entry.Entry.{Entry}
 use Rattle.armcaps_alt.specs.Entries.{Features, selected_of}
 use Rattle.armcaps_alt.specs.Patched.{covers}
-use Rattle.armcaps_boot.specs.Findings.{findings_after}
 use Rattle.armcaps_elf.specs.declared.section.Section.{Section}
 use Rattle.armcaps_elf.specs.Headers.{sections_of}
 use Rattle.armcaps_elf.specs.Images.{flat_image, flat_place}
@@ -13,10 +12,10 @@ use Rattle.armcaps_image.specs.Bytes.{word_in}
 use Rattle.armcaps_image.specs.Places.{as_place}
 use Rattle.armcaps_jump.specs.Entries.{entry_at}
 use Rattle.armcaps_jump.specs.Laws.{IsChosen, IsElsewhere, IsLastThere}
-use Rattle.armcaps_patch.specs.Features.{features_of_findings}
-use Rattle.armcaps_top.specs.Answer.{output_in, steps_of}
+use Rattle.armcaps_top.specs.Answer.{output_in}
 use Rattle.armcaps_top.specs.Document.{Document}
 use Rattle.armcaps_top.specs.Elf.{table_in}
+use Rattle.armcaps_top.specs.Features.{features_in}
 use Rattle.armcaps_top.specs.declared.commands.Command.TheVariants.{Patch}
 
 -- the patched image of a document with the jump labels of a table: as long as the patched image; the word at each code
@@ -39,10 +38,6 @@ pub record LiesInSite (features : Features) (file : List ℕ) (place : ℕ) : Ty
   pub entry : Entry
   pub selected : Contains (selected_of features (flat_image file) (table_in file)) entry
   pub covered : covers (flat_place (sections_of file) section place) entry ≡ true
-
--- what the machine of a document has, once all its steps are made
-abbrev pub features_in : Document → Features
-features_in found = features_of_findings (findings_after found.reading.board (steps_of found)) found.reading.names
 
 -- the ELF file of a document with its sites patched: as long as it was, and each byte that is another lies in a loaded
 -- section and in a selected site

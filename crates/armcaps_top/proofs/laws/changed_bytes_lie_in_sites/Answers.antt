@@ -5,7 +5,7 @@ use Rattle.armcaps_alt.specs.Patched.{patched_image}
 use Rattle.armcaps_elf.specs.Headers.{sections_of}
 use Rattle.armcaps_elf.specs.Images.{flat_image, flat_place}
 use Rattle.armcaps_top.specs.Elf.{elf_reason, patched_file, table_in}
-use Rattle.armcaps_top.specs.Laws.{features_in}
+use Rattle.armcaps_top.specs.Features.{features_in}
 use Rattle.armcaps_top.proofs.Sites.{file_accepted, in_a_site, unless_written}
 use Rattle.armcaps_top.proofs.laws.changed_bytes_lie_in_sites.Goals as goal
 
