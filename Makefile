@@ -40,14 +40,14 @@ COMMAND := report
 TEXT := examples/late-core.txt
 
 try:
-	cd crates/armcaps && rt try -- $(COMMAND) < $(abspath $(TEXT))
+	cd crates/armcaps && rt try -- $(COMMAND) < "$(abspath $(TEXT))"
 
 UNPROVED := build/unproved/armcaps
 
 test:
 	@mkdir -p $(dir $(UNPROVED))
 	tools/unproved tests --build $(UNPROVED)
-	ARMCAPS=$(abspath $(UNPROVED)) tools/check
+	ARMCAPS="$(abspath $(UNPROVED))" tools/check
 	@echo "make test: all passed; nothing was proved: make check proves"
 
 check:
