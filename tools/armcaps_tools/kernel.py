@@ -9,6 +9,9 @@ from .command import Refused
 ENTRY = struct.Struct("<iiHBB")
 JUMP = struct.Struct("<iiq")
 CALLBACK = 0x8000
+POINTER = 8
+# by how many pointers what follows an array may begin later, for its alignment
+SPARE = 8
 
 
 def symbols(data):
@@ -35,6 +38,14 @@ def numbers(data):
     if not names or not all(re.fullmatch(r"\w+", name) for name in names):
         raise Refused("--caps is neither a header with `#define ARM64_NAME N` nor the list arch/arm64/tools/cpucaps")
     return dict(enumerate(bare(name) for name in names))
+
+
+def how_many(data):
+    """How many numbers such a header or list has, or None where a header does not say it."""
+    told = re.search(rb"^[ \t]*#[ \t]*define[ \t]+(?:ARM64_)?NCAPS[ \t]+(\d+)", data, re.MULTILINE)
+    if told:
+        return int(told.group(1))
+    return None if b"define" in data else len(numbers(data))
 
 
 def bare(name):
@@ -72,6 +83,14 @@ class Kernel:
             raise Refused(f"the {what}, {begin:#x} to {end:#x}, is not one of this image of {len(self.image)} bytes")
         return begin, (end - begin) // size
 
+    def how_many_numbers(self):
+        """For how many numbers the kernel has a pointer, up to what follows its array of them; None without symbols."""
+        arrays = [self.offsets[name] for name in ("cpucap_ptrs", "cpu_hwcaps_ptrs") if name in self.offsets]
+        if not arrays:
+            return None
+        after = [place for name, place in self.offsets.items() if place > arrays[0] and not name.startswith("$")]
+        return (min(after) - arrays[0]) // POINTER if after else None
+
     def table(self):
         return self.span("__alt_instructions", "__alt_instructions_end", ENTRY.size, "table")
 
@@ -108,6 +127,20 @@ def entries_of(image, begin, count):
         yield Entry(place + site, place + 4 + other, number & ~CALLBACK, bool(number & CALLBACK), length)
 
 
+# what an image begins with that is none: ELF and compressed files, and Linux's image that unpacks itself
+OTHERS = {
+    b"\x7fELF": "is an ELF file: say --vmlinux, or make the image of it by `objcopy -O binary`",
+    b"\x1f\x8b": "is compressed (gzip): unpack it first",
+    b"\x28\xb5\x2f\xfd": "is compressed (zstd): unpack it first",
+    b"\xfd7zXZ": "is compressed (xz): unpack it first",
+    b"BZh": "is compressed (bzip2): unpack it first",
+    b"MZ\0\0zimg": "unpacks itself (vmlinuz.efi): take arch/arm64/boot/Image, from which it was made",
+}
+
+
 def of_image(image, known):
     """The kernel of an image that begins at _text."""
+    for begin, what in OTHERS.items():
+        if image.startswith(begin):
+            raise Refused(f"--image {what}")
     return Kernel(image, {name: address - known["_text"] for name, address in known.items()})

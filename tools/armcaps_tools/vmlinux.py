@@ -26,8 +26,12 @@ class Section:
     link: int
 
     @property
+    def has_bytes(self):
+        return self.kind not in (NOTHING, NO_BYTES)
+
+    @property
     def is_loaded(self):
-        return self.flags & ALLOC and self.kind not in (NOTHING, NO_BYTES) and self.size
+        return self.flags & ALLOC and self.has_bytes and self.size
 
 
 def word_ending_at_zero(data, place):
@@ -45,9 +49,16 @@ class Vmlinux:
             raise Refused("--vmlinux is for another machine than arm64")
         self.data = data
         place, count, names = parts[6], parts[12], parts[13]
+        if place + count * SECTION.size > len(data) or names >= count:
+            raise Refused("--vmlinux has no table of sections within it: is it cut?")
         raw = [SECTION.unpack_from(data, place + index * SECTION.size) for index in range(count)]
         text = raw[names][4]
-        self.sections = [Section(word_ending_at_zero(data, text + row[0]), *row[1:7]) for row in raw]
+        try:
+            self.sections = [Section(word_ending_at_zero(data, text + row[0]), *row[1:7]) for row in raw]
+        except ValueError:
+            raise Refused("--vmlinux has a section whose name does not end in it: is it cut?") from None
+        if any(section.place + section.size > len(data) for section in self.sections if section.has_bytes):
+            raise Refused("--vmlinux has a section that reaches beyond its end: is it cut?")
 
     def symbols(self):
         """Each symbol's address, by name."""
@@ -61,7 +72,7 @@ class Vmlinux:
                 if name and index:
                     found[word_ending_at_zero(self.data, names + name)] = value
         if "_text" not in found:
-            raise Refused("--vmlinux has no symbols: it is to be the file that was not stripped")
+            raise Refused("--vmlinux has no symbol _text: it is to be a kernel's vmlinux that was not stripped")
         return found
 
     def loaded(self):

@@ -199,9 +199,39 @@ class Files(Small):
         self.assertEqual(done.returncode, 0)
 
     def test_no_vmlinux(self):
-        done = run(TOP / "tools/kernel2text", "--vmlinux", CAPS, "--caps", CAPS, "-", given=TEXT.encode())
-        self.assertEqual((done.returncode, done.stdout), (1, b""))
-        self.assertIn(b"no ELF64 file", done.stderr)
+        symbols = kernel.symbols((self.folder / "kernel.nm").read_bytes())
+        whole = vmlinux(self.image, symbols, symbols["__alt_instructions"])
+        unnamed = vmlinux(self.image, {**symbols, "_start": symbols["_text"]}, symbols["__alt_instructions"])
+        for data, word in [
+            (CAPS.read_bytes(), b"no ELF64 file"),
+            (whole[:18] + b"\x3e" + whole[19:], b"another machine"),
+            (whole[:-100], b"no table of sections within it: is it cut?"),
+            (unnamed.replace(b"\0_text\0", b"\0_head\0"), b"no symbol _text"),
+        ]:
+            file = self.folder / "vmlinux"
+            file.write_bytes(data)
+            with self.subTest(word=word):
+                done = run(TOP / "tools/kernel2text", "--vmlinux", file, "--caps", CAPS, "-", given=TEXT.encode())
+                self.assertEqual((done.returncode, done.stdout), (1, b""))
+                self.assertIn(word, done.stderr)
+
+    def test_no_image(self):
+        for begin, word in [(b"\x7fELF", "is an ELF file"), (b"\x1f\x8b", "(gzip)"), (b"MZ\0\0zimg", "unpacks itself")]:
+            (self.folder / "kernel.img").write_bytes(begin + self.image[len(begin) :])
+            with self.subTest(word=word):
+                status, lines, told = self.answer()
+                self.assertEqual((status, lines), (1, []))
+                self.assertIn(word, told)
+
+    def test_the_numbers_of_another_kernel(self):
+        """The kernel has a pointer for each number: 97 in the header, whatever the alignment of what follows them."""
+        for size, status in [(96, 1), (97, 0), (104, 0), (105, 1)]:
+            begin = 0xFFFF800080005000
+            added = f"{begin:x} d cpucap_ptrs\n{begin + 8 * size:x} d next\n"
+            with self.subTest(size=size):
+                answer = self.answer("--on", "SPECTRE_V4", change=lambda text, added=added: text + added)
+                self.assertEqual(answer[0], status, answer[2])
+                self.assertEqual("--caps has 97 numbers" in answer[2], bool(status))
 
 
 class Rules(unittest.TestCase):
