@@ -1,5 +1,5 @@
 -- A selected entry that is not refused is accepted.
-use Rattle.std.proofs.Common.{◌≡◌, ◌+◌, ◌*◌, ◌/◌, ◌%◌, ◌<◌, ◌∷◌, ◌&&◌, ◌||◌, ◌==◌, ◌∙◌, ℕ, Bool, List, [], None, Ok, Option, Err, Result, Some, add-zero, ap, arith, false, find, inl, inr, is_none, length, map, not, pos, refl, subst, suc, sym, true, unwrap_or, zero, zero-add}
+use Rattle.std.proofs.Common.{◌≡◌, ◌+◌, ◌/◌, ◌%◌, ◌<◌, ◌∷◌, ◌&&◌, ◌==◌, ◌∙◌, ℕ, Bool, List, [], None, Ok, Option, Err, Result, Some, add-zero, ap, arith, false, find, inl, inr, is_none, length, map, not, pos, refl, subst, suc, sym, true, unwrap_or, zero, zero-add}
 use Rattle.std.specs.List.{list_any, range_with_len}
 use Rattle.std.specs.Option.{option_map}
 use Rattle.std.proofs.lemmas.Bool.{cases_Bool, eqb-true, false_from_ne_true, false≢true, or_parts}
@@ -11,7 +11,7 @@ use Rattle.armcaps_insn.specs.declared.correction.FixRefused.{FixRefused}
 use Rattle.armcaps_insn.specs.declared.correction.FixRefused.TheVariants as refused
 use Rattle.armcaps_alt.specs.declared.table_entry.Entry.{Entry}
 use Rattle.armcaps_alt.specs.declared.table_place.Layout.{Layout}
-use Rattle.armcaps_alt.specs.Accepted.{HasCallback, HasReplacement, IsAccepted}
+use Rattle.armcaps_alt.specs.Accepted.{IsAccepted}
 use Rattle.armcaps_alt.specs.Entries.{Features, entry_at, is_selected, selection}
 use Rattle.armcaps_alt.specs.Names.{NameLists, callback_named}
 use Rattle.armcaps_alt.specs.Refusals.{Test, first_kind, first_refusal, first_refusal_from, has_other_length, has_wrong_callback, is_literal, is_out_of_range, is_unaligned, refusal_by, refusal_of, tests_of}

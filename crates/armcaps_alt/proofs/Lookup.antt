@@ -1,5 +1,5 @@
 -- What a binary search among pairs finds, where their keys rise.
-use Rattle.std.proofs.Common.{◌≡◌, ◌<◌, ◌≤◌, ◌∷◌, ℕ, Bool, List, MatchResult, None, Ok, Err, Result, Some, [], arith, ap, false, get_or, length, map, refl, subst, suc, sym, true, zero, find, ◌==◌}
+use Rattle.std.proofs.Common.{◌≡◌, ◌<◌, ◌≤◌, ℕ, List, MatchResult, None, Ok, Err, Result, Some, arith, ap, get_or, length, map, refl, subst, sym, ◌==◌}
 use Rattle.std.specs.List.Sorted.{IsBinarySearchResult, IsNonDecreasingBy, IsSearchInRange, IsStrictlyIncreasing}
 use Rattle.std.specs.Ordering.{nat_cmp, ordering_index}
 use Rattle.std.proofs.lemmas.Bool.Decides.{nat_tests}

@@ -1,5 +1,5 @@
 -- Each word of a site comes from the last selected entry that covers it, and no other byte changes.
-use Rattle.std.proofs.Common.{◌≡◌, ◌+◌, ◌-◌, ◌*◌, ◌/◌, ◌%◌, ◌^◌, ◌<◌, ◌≤◌, ◌&&◌, ◌==◌, ◌∙◌, ℕ, Bool, List, None, Ok, Some, ap, arith, false, get_or, inl, inr, length, lit<, nat_le, nat_lt, refl, subst, sym, true, zero-add}
+use Rattle.std.proofs.Common.{◌≡◌, ◌+◌, ◌-◌, ◌*◌, ◌/◌, ◌%◌, ◌^◌, ◌<◌, ◌≤◌, ◌&&◌, ◌==◌, ◌∙◌, ℕ, List, None, Some, ap, arith, false, get_or, inl, inr, length, lit<, refl, subst, sym, true, zero-add}
 use Rattle.std.specs.List.{range_with_len}
 use Rattle.std.specs.Option.{option_map}
 use Rattle.std.proofs.lemmas.Bool.{and_from, cases_Bool, false≢true}
@@ -7,7 +7,7 @@ use Rattle.std.proofs.lemmas.Bool.Decides.{nat_tests}
 use Rattle.std.proofs.lemmas.List.FromFn.{get_or-map-range_with_len, get_or-range_with_len, length-map-range_with_len, length-range_with_len}
 use Rattle.armcaps_insn.specs.Moved.{IsMove, StaysOrMoves, is_kept}
 use Rattle.armcaps_insn.proofs.Moves.{moves}
-use Rattle.armcaps_image.specs.Bytes.{AreBytes, byte_of, word_in}
+use Rattle.armcaps_image.specs.Bytes.{AreBytes, word_in}
 use Rattle.armcaps_image.specs.Last.{last_that}
 use Rattle.armcaps_image.specs.Places.{as_place}
 use Rattle.armcaps_image.proofs.Last.{last_that-filter, last_that-map, last_that-none, last_that-range}
@@ -21,10 +21,9 @@ use Rattle.armcaps_alt.specs.declared.table_place.Layout.{Layout}
 use Rattle.armcaps_alt.specs.Accepted.{HasCallback, HasReplacement, IsAccepted}
 use Rattle.armcaps_alt.specs.Entries.{Features, entries_of, entry_at, is_selected, selected_of}
 use Rattle.armcaps_alt.specs.Laws.{IsLastThere, IsNewWord, IsUncovered, ReplacesSites, replacement_place, site_place}
-use Rattle.armcaps_alt.specs.Names.{NameLists}
-use Rattle.armcaps_alt.specs.Patched.{covers, new_byte, patched_byte, patched_image}
+use Rattle.armcaps_alt.specs.Patched.{covers, patched_byte, patched_image}
 use Rattle.armcaps_alt.specs.Refusals.{first_refusal, makes_other_length}
-use Rattle.armcaps_alt.specs.Words.{callback_word_at, callback_word_of, new_word, replacement_word}
+use Rattle.armcaps_alt.specs.Words.{callback_word_at, callback_word_of, new_word}
 use Rattle.armcaps_alt.proofs.Accepting.{selected_accepted}
 
 -- a callback that makes as many bytes as a site has makes words of 32 bits

@@ -1,5 +1,5 @@
 -- The last item that passes.
-use Rattle.std.proofs.Common.{◌&&◌, zero, zero-add, ◌≡◌, ◌+◌, ◌<◌, ◌≤◌, ◌∷◌, ◌++◌, ◌∙◌, ◌⊎◌, ℕ, Bool, List, [], None, Option, Some, ap, arith, drop, false, get_or, inl, inr, length, map, refl, subst, sym, suc, take, true}
+use Rattle.std.proofs.Common.{◌&&◌, zero, zero-add, ◌≡◌, ◌+◌, ◌<◌, ◌≤◌, ◌∷◌, ◌++◌, ◌∙◌, ℕ, Bool, List, [], None, Some, ap, arith, drop, false, get_or, inl, inr, length, map, refl, subst, sym, suc, take, true}
 use Rattle.std.specs.List.{filter, range_with_len}
 use Rattle.std.specs.Option.{option_map, option_or}
 use Rattle.std.proofs.lemmas.Bool.{cases_Bool, cases_lt}

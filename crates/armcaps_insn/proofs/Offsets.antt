@@ -1,10 +1,10 @@
 -- Offsets in bytes, and the bits that stand for them.
-use Rattle.std.proofs.Common.{◌≡◌, ℕ, ◌+◌, ◌-◌, ◌*◌, ◌/◌, ◌^◌, ◌<◌, ◌≤◌, ◌&&◌, suc, ℤ, pos, negsuc, ◌*ℤ◌, ◌≤ℤ◌, ◌<ℤ◌, neg_ℤ, zero, true, int_le, refl, sym, ap, subst, ◌∙◌, inl, inr, lit<, arith}
+use Rattle.std.proofs.Common.{◌≡◌, ℕ, ◌+◌, ◌-◌, ◌*◌, ◌/◌, ◌^◌, ◌<◌, ◌≤◌, ◌&&◌, suc, ℤ, pos, negsuc, ◌*ℤ◌, ◌≤ℤ◌, ◌<ℤ◌, neg_ℤ, zero, true, int_le, refl, sym, ap, ◌∙◌, inl, inr, lit<, arith}
 use Rattle.std.proofs.Math.IntN.{pos-*ℤ-pos, negsuc-*ℤ-pos}
 use Rattle.std.proofs.Math.Nat.{mul-le-mul_right, pow-le-pow_right, zero-mul}
-use Rattle.std.proofs.lemmas.Bool.{cases_lt, le-leb, lt-leb}
+use Rattle.std.proofs.lemmas.Bool.{cases_lt}
 use Rattle.std.proofs.lemmas.Int.{ints}
-use Rattle.std.proofs.lemmas.Nat.{mul-le, pow-add, pow_pos, div_below, shl-shr, shr_high, shr_split}
+use Rattle.std.proofs.lemmas.Nat.{mul-le, pow_pos, div_below, shl-shr, shr_high, shr_split}
 use Rattle.armcaps_insn.specs.declared.immediates.Immediate.{Immediate}
 use Rattle.armcaps_bits.specs.Field.{signed_number}
 use Rattle.armcaps_bits.proofs.Signs.{pow-top, signed_number-high, signed_number-low}

@@ -1,6 +1,6 @@
 -- Where an instruction's offset lies in its word, and what it stands for (Arm ARM DDI 0487, the encodings of B, BL,
 -- B.cond, CBZ, CBNZ, TBZ, TBNZ and ADRP: `imm26`, `imm19`, `imm14`, and `immhi:immlo`).
-use Rattle.std.specs.Prelude.{◌≡◌, ◌+◌, ◌-◌, ◌*◌, ◌/◌, ◌%◌, ◌^◌, ◌≤◌, ◌&&◌, ◌-ℤ◌, ◌*ℤ◌, ℕ, suc, ℤ, pos, negsuc, Bool, Option, Some, None, bit_and, bit_or, if◌then◌else◌, int_le, nat_le, neg_ℤ}
+use Rattle.std.specs.Prelude.{◌≡◌, ◌+◌, ◌-◌, ◌*◌, ◌/◌, ◌%◌, ◌^◌, ◌≤◌, ◌&&◌, ◌*ℤ◌, ℕ, ℤ, pos, negsuc, Bool, Option, Some, None, bit_and, bit_or, int_le, neg_ℤ}
 use Rattle.armcaps_bits.specs.Field.{field_bits, signed_number, unsigned_field}
 use Rattle.armcaps_insn.specs.declared.instruction_class.Class.{Class}
 use Rattle.armcaps_insn.specs.declared.instruction_class.Class.TheVariants.{Jump26, Jump19, Jump14, Page, Literal, Other}

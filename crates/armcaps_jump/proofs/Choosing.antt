@@ -1,11 +1,11 @@
 -- The word at a code place is that of the last entry there.
-use Rattle.std.proofs.Common.{◌≡◌, ◌≢◌, ◌+◌, ◌-◌, ◌*◌, ◌/◌, ◌%◌, ◌^◌, ◌<◌, ◌≤◌, ◌-ℤ◌, ◌∷◌, ◌++◌, ◌&&◌, ◌==◌, ◌∙◌, ◌⊎◌, ℕ, ℤ, Bool, List, [], None, Option, Some, ap, arith, cond, false, get_or, inl, inr, int_rem, is_some, length, lit<, map, negsuc, not, pos, refl, subst, suc, sym, true, zero, zero-add}
+use Rattle.std.proofs.Common.{◌≡◌, ◌≢◌, ◌+◌, ◌-◌, ◌*◌, ◌/◌, ◌%◌, ◌^◌, ◌<◌, ◌≤◌, ◌-ℤ◌, ◌∷◌, ◌&&◌, ◌∙◌, ℕ, ℤ, Bool, List, [], None, Option, Some, ap, arith, cond, false, get_or, inl, inr, int_rem, is_some, length, lit<, not, pos, refl, subst, suc, sym, true, zero, zero-add}
 use Rattle.std.specs.List.{find, range_with_len}
-use Rattle.std.specs.Option.{option_map, option_or}
+use Rattle.std.specs.Option.{option_map}
 use Rattle.std.specs.Ordering.{int_eq}
-use Rattle.std.proofs.lemmas.Bool.{and_parts, cases_Bool, cases_lt}
+use Rattle.std.proofs.lemmas.Bool.{and_parts, cases_Bool}
 use Rattle.std.proofs.lemmas.Bool.Decides.{Decides-int_eq, nat_tests}
-use Rattle.std.proofs.lemmas.List.FromFn.{get_or-map-range_with_len, get_or-range_with_len, length-map-range_with_len, length-range_with_len}
+use Rattle.std.proofs.lemmas.List.FromFn.{get_or-map-range_with_len, get_or-range_with_len, length-range_with_len}
 use Rattle.armcaps_insn.proofs.Moves.{branch_is}
 use Rattle.armcaps_insn.specs.Encodings.{nop}
 use Rattle.armcaps_insn.specs.Immediates.{immediate, is_in_range, with_offset}
@@ -19,7 +19,6 @@ use Rattle.armcaps_image.proofs.Last.{last_that-map, last_that-none, last_that-r
 use Rattle.armcaps_image.proofs.Within.{place_parts}
 use Rattle.armcaps_image.proofs.Words.{word_of_bytes}
 use Rattle.armcaps_jump.specs.declared.jump_entry.JumpEntry.{JumpEntry}
-use Rattle.armcaps_jump.specs.declared.site.Site.{Site}
 use Rattle.armcaps_jump.specs.Entries.{entries_of, entry_at}
 use Rattle.armcaps_jump.specs.Jumped.{byte_by, has_byte, jump_image, sites_of}
 use Rattle.armcaps_jump.specs.Refusals.{first_refusal, kind_of}

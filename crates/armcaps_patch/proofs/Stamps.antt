@@ -1,5 +1,5 @@
 -- The greatest stamp on a place names the last entry that covers it.
-use Rattle.std.proofs.Common.{◌≡◌, ◌^◌, ◌%◌, ◌*◌, ◌/◌, ◌+◌, ◌<◌, ◌≤◌, ◌∷◌, ◌++◌, ℕ, Bool, List, MatchOption, None, Option, Some, [], arith, ap, cond, max, refl, suc, sym, true, zero, ◌⊎◌, inl, inr, ◌∙◌, subst}
+use Rattle.std.proofs.Common.{◌≡◌, ◌^◌, ◌%◌, ◌*◌, ◌/◌, ◌+◌, ◌<◌, ◌≤◌, ◌∷◌, ◌++◌, ℕ, Bool, List, MatchOption, None, Option, Some, [], arith, ap, cond, max, refl, suc, sym, true, zero, inl, inr, ◌∙◌, subst}
 use Rattle.std.specs.List.{All, slice_get}
 use Rattle.std.proofs.Common.{drop, get_or, length, take, ◌-◌}
 use Rattle.std.proofs.lemmas.Option.{get_or_from_slice_get, slice_get_within}

@@ -1,7 +1,6 @@
 -- What a plan makes of the image that it stands for is the patched image, and what it counts is counted of the selected entries.
-use Rattle.std.proofs.Common.{◌≡◌, ◌-◌, ◌/◌, ◌%◌, ◌∷◌, ◌∙◌, ℕ, Bool, List, [], None, Option, Some, ap, arith, length, map, refl, inl, inr, ◌⊎◌}
+use Rattle.std.proofs.Common.{◌≡◌, ◌-◌, ◌/◌, ◌%◌, ◌∷◌, ◌∙◌, ℕ, List, [], ap, arith, length, map, refl, inl, inr}
 use Rattle.std.specs.List.{range_with_len, sum_by}
-use Rattle.std.specs.Option.{option_map}
 use Rattle.std.proofs.lemmas.Bool.{cases_Bool}
 use Rattle.std.proofs.lemmas.List.{length-map}
 use Rattle.std.proofs.lemmas.List.Sums.{sum_by-cons}

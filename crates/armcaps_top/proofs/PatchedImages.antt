@@ -1,5 +1,5 @@
 -- What `patch` writes of an input replaces the sites of its image.
-use Rattle.std.proofs.Common.{◌≡◌, ◌<◌, ◌≤◌, ◌-◌, ◌^◌, ◌∙◌, ℕ, Bool, List, Option, Result, None, Some, Ok, Err, ap, arith, cond, drop, false, length, nat_lt, refl, subst, sym, true}
+use Rattle.std.proofs.Common.{◌≡◌, ◌<◌, ◌≤◌, ◌-◌, ◌^◌, ℕ, Bool, List, Option, None, Some, Ok, Err, arith, cond, drop, false, length, nat_lt, refl, subst, sym, true}
 use Rattle.std.proofs.lemmas.List.{length-drop}
 use Rattle.std.proofs.lemmas.List.Elements.{All-drop}
 use Rattle.armcaps_alt.specs.Entries.{Features}
@@ -17,7 +17,6 @@ use Rattle.armcaps_top.specs.Document.{Document, document, document_after, image
 use Rattle.armcaps_top.specs.Features.{features_in}
 use Rattle.armcaps_top.specs.Patch.{unless_entry_refused}
 use Rattle.armcaps_top.specs.declared.commands.Command.TheVariants as command
-use Rattle.armcaps_top.specs.declared.reason.Reason.{Reason}
 use Rattle.armcaps_top.specs.declared.refusal.Refusal.{Refusal}
 use Rattle.armcaps_top.specs.declared.refusal.Refusal.TheVariants.{TooLong}
 use Rattle.armcaps_top.proofs.DocumentFields.{AreSound, document_sound}

@@ -1,5 +1,5 @@
 -- Each byte of the word is that of the new word, or the original's where no site covers it.
-use Rattle.std.proofs.Common.{◌≡◌, ◌+◌, ◌-◌, ◌*◌, ◌%◌, ◌&&◌, None, arith, nat_le, nat_lt, true, sym, ◌∙◌, length}
+use Rattle.std.proofs.Common.{◌≡◌, ◌+◌, ◌-◌, ◌*◌, ◌%◌, ◌&&◌, None, arith, nat_le, nat_lt, true, sym, ◌∙◌}
 use Rattle.std.proofs.lemmas.Bool.Decides.{nat_tests}
 use Rattle.armcaps_patch.specs.Kept.{Planned, kept_covers, plan_of}
 use Rattle.armcaps_patch.specs.declared.kept.Kept.{Kept}

@@ -1,4 +1,4 @@
-use Rattle.std.proofs.Common.{◌≡◌, ap, ℕ, ◌+◌, ◌-◌, ◌*◌, arith, get_or, inl, inr, length, subst, ◌∙◌}
+use Rattle.std.proofs.Common.{◌≡◌, ap, ℕ, ◌+◌, ◌-◌, ◌*◌, arith, get_or, inl, inr, subst, ◌∙◌}
 use Rattle.std.proofs.lemmas.Bool.{cases_lt}
 use Rattle.armcaps_patch.specs.Kept.{Planned, plan_of, planned_byte}
 use Rattle.armcaps_patch.proofs.pieces.put_words.Goals as goal
