@@ -10,3 +10,4 @@ pub mod Judged
 pub mod Covering
 pub mod Verdicts
 mod Worked
+pub mod WorkedImage
