@@ -119,9 +119,9 @@ accepted_from features image of n a zero none k within = absurd (omega arith)
 accepted_from features image of n a (suc count) none zero within =
     rw add-zero (option_map-none _ (refusal_of features image (of a)) (option_or_first _ _ none))
 accepted_from features image of n a (suc count) none (suc k) within =
+    let same : a + 1 + k ≡ a + suc k = omega arith in
     let later : k < count = omega (arith, within) in
     let rest : refusal_of features image (of (a + 1 + k)) ≡ None = accepted_from features image of (n + 1) (a + 1) count (option_or_second _ _ none) k later in
-    let same : a + 1 + k ≡ a + suc k = omega arith in
     subst (λ (m : ℕ). refusal_of features image (of m) ≡ None) same rest
 
 pub selected_accepted : (features : Features) (image : List ℕ) (layout : Layout) (number : ℕ)
