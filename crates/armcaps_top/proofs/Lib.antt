@@ -8,6 +8,7 @@ pub mod Fitting
 pub mod Generated
 pub mod GeneratedSites
 pub mod Images
+pub mod Labels
 pub mod Limits
 pub mod Loaded
 pub mod Outputs
@@ -21,4 +22,5 @@ pub mod Steps
 pub mod Tallies
 pub mod Texts
 pub mod Traces
+pub mod Unpatched
 pub mod Written

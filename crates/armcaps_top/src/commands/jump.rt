@@ -1,8 +1,13 @@
 //! `jump OFFSET COUNT`: the image, patched for the machine, with the jump labels of its table applied.
 
 ghost use Rattle.std.specs.Prelude.{◌≡◌, ◌≤◌, ◌^◌, IfOk, IfErr, Ok, [], length};
+ghost use Rattle.std.specs.Cow.{cow_slice_items};
+ghost use Rattle.armcaps_alt.specs.Entries.{Features};
+ghost use Rattle.armcaps_alt.specs.Patched.{patched_image};
+ghost use Rattle.armcaps_alt.specs.declared.table_place.Layout.{Layout};
 ghost use Rattle.armcaps_jump.specs.Jumped.{jump_image};
 ghost use Rattle.armcaps_jump.specs.Standing.{StandsFor};
+ghost use Rattle.armcaps_patch.specs.Kept.{StandsFor as IsPlanOf};
 ghost use Rattle.armcaps_text.specs.Document.{reading_of};
 ghost use Rattle.armcaps_text.specs.Formats.{format_of};
 ghost use Rattle.armcaps_text.specs.Sound.{IsSound};
@@ -19,8 +24,10 @@ use crate::reason::Reason;
 use armcaps_boot::Boot;
 use armcaps_io::Sink;
 use armcaps_jump::{JumpRefused, Jumps};
+use armcaps_patch::Plan;
 use armcaps_text::Machine;
-use std::alloc::Global;
+use std::alloc::{AllocError, Global};
+use std::borrow::CowSlice;
 
 /// Why no jump labels are applied to a patched image.
 #[derive(Clone, Copy)]
@@ -32,23 +39,40 @@ pub enum LabelsRefused {
     Entry { entry: u32, kind: u8 },
 }
 
+// The image that a plan makes: the image as it is where no entry is selected, of which no copy is made.
+fn patched_or_same<'a>(
+    alloc: Global,
+    plan: &Plan,
+    image: &'a [u8],
+) -> Result<CowSlice<'a, u8>, AllocError>
+    requires { length image.now ≡ plan.now.size }
+    ensures { (features : Features) (layout : Layout) → IsPlanOf plan.now features image.now layout
+        → IfOk result (λ made. cow_slice_items made ≡ patched_image features image.now layout) }
+{
+    if plan.count_entries() == 0 {
+        return Ok(CowSlice::Borrowed(image));
+    }
+    let bytes = patched(alloc, plan, image)?;
+    Ok(CowSlice::Owned(bytes))
+}
+
 // Brings the machine up, and makes its patched image.
-fn patched_for(
+fn patched_for<'a>(
     alloc: Global,
     machine: Machine,
-    image: &[u8],
+    image: &'a [u8],
     machines: &mut Vec<Boot>,
-) -> Result<Vec<u8>, Ending>
+) -> Result<CowSlice<'a, u8>, Ending>
     requires sound { IsSound (reading_of machine) }
     requires none { machines.old.items ≡ [] }
     requires image { length image.now ≡ machine.image }
     ensures comes { Comes (of_document Command.Patch (Ok (record { reading = reading_of machine; image = image.now })))
-        machines.new.items (as_bytes (λ bytes. bytes.items) result) }
-    ensures size { IfOk result (λ bytes. length bytes.items ≤ 2 ^ 29) }
+        machines.new.items (as_bytes (λ made. cow_slice_items made) result) }
+    ensures size { IfOk result (λ made. length (cow_slice_items made) ≤ 2 ^ 29) }
 {
     let plan = plan_of(alloc, machine, image, machines)?;
-    match patched(alloc, &plan, image) {
-        Ok(bytes) => Ok(bytes),
+    match patched_or_same(alloc, &plan, image) {
+        Ok(made) => Ok(made),
         Err(_) => Err(Ending::Memory),
     }
 }
@@ -72,22 +96,22 @@ fn labels_of(alloc: Global, table: u32, count: u32, image: &[u8]) -> Result<Jump
 }
 
 // The patched image of a document, whose machine is brought up and left in `machines`, and the image's jump labels.
-fn patched_and_labels(
+fn patched_and_labels<'a>(
     alloc: Global,
     table: u32,
     count: u32,
-    bytes: &[u8],
+    bytes: &'a [u8],
     machines: &mut Vec<Boot>,
-) -> Result<(Vec<u8>, Jumps), Ending>
+) -> Result<(CowSlice<'a, u8>, Jumps), Ending>
     requires within { length bytes.now ≤ (format_of bytes.now).input }
     requires none { machines.old.items ≡ [] }
-    ensures stands { IfOk result (λ made. StandsFor made.1 made.0.items table count) }
+    ensures stands { IfOk result (λ made. StandsFor made.1 (cow_slice_items made.0) table count) }
     ensures comes { Comes (answer_of (Command.Jump table count) bytes.now) machines.new.items
-        (as_bytes (λ made. jump_image made.0.items table count) result) }
+        (as_bytes (λ made. jump_image (cow_slice_items made.0) table count) result) }
 {
     let (machine, place) = machine_of(alloc, bytes)?;
     let image = patched_for(alloc, machine, bytes_from(bytes, place), machines)?;
-    let jumps = labels_of(alloc, table, count, &image)?;
+    let jumps = labels_of(alloc, table, count, image.as_slice())?;
     Ok((image, jumps))
 }
 
@@ -110,7 +134,7 @@ pub fn jump<O: Sink>(
         Ok(made) => made,
         Err(ending) => return ending,
     };
-    match jumps.write(&image, out) {
+    match jumps.write(image.as_slice(), out) {
         Ok(()) => Ending::Done,
         Err(_) => Ending::WriteFault,
     }
