@@ -11,6 +11,8 @@ SYMBOL = struct.Struct("<IBBHQQ")
 MACHINE = 183
 ALLOC, NOTHING, SYMBOLS, NO_BYTES = 2, 0, 2, 8
 PAGE = 4096
+ENTRY = 12
+MOST = 134217728
 
 
 @dataclasses.dataclass(frozen=True)
@@ -41,38 +43,40 @@ def word_ending_at_zero(data, place):
 class Vmlinux:
     """A kernel's file that was linked for arm64."""
 
-    def __init__(self, data):
+    def __init__(self, data, name="--vmlinux"):
+        self.name = name
         if data[:7] != b"\x7fELF\x02\x01\x01" or len(data) < HEADER.size:
-            raise Refused("--vmlinux is no ELF64 file of low byte first")
+            raise Refused(f"{name} is no ELF64 file of low byte first")
         parts = HEADER.unpack_from(data)
         if parts[2] != MACHINE:
-            raise Refused("--vmlinux is for another machine than arm64")
+            raise Refused(f"{name} is for another machine than arm64")
         self.data = data
         place, count, names = parts[6], parts[12], parts[13]
         if place + count * SECTION.size > len(data) or names >= count:
-            raise Refused("--vmlinux has no table of sections within it: is it cut?")
+            raise Refused(f"{name} has no table of sections within it: is it cut?")
         raw = [SECTION.unpack_from(data, place + index * SECTION.size) for index in range(count)]
         text = raw[names][4]
         try:
             self.sections = [Section(word_ending_at_zero(data, text + row[0]), *row[1:7]) for row in raw]
         except ValueError:
-            raise Refused("--vmlinux has a section whose name does not end in it: is it cut?") from None
+            raise Refused(f"{name} has a section whose name does not end in it: is it cut?") from None
         if any(section.place + section.size > len(data) for section in self.sections if section.has_bytes):
-            raise Refused("--vmlinux has a section that reaches beyond its end: is it cut?")
+            raise Refused(f"{name} has a section that reaches beyond its end: is it cut?")
 
     def symbols(self):
         """Each symbol's address, by name."""
         found = {}
-        for section in self.sections:
-            if section.kind != SYMBOLS:
-                continue
-            names = self.sections[section.link].place
-            rows = self.data[section.place : section.place + section.size]
-            for name, _, _, index, value, _ in SYMBOL.iter_unpack(rows):
-                if name and index:
-                    found[word_ending_at_zero(self.data, names + name)] = value
+        try:
+            for section in (section for section in self.sections if section.kind == SYMBOLS):
+                names = self.sections[section.link].place
+                rows = self.data[section.place : section.place + section.size]
+                for name, _, _, index, value, _ in SYMBOL.iter_unpack(rows):
+                    if name and index:
+                        found[word_ending_at_zero(self.data, names + name)] = value
+        except (IndexError, ValueError, struct.error):
+            raise Refused(f"{self.name} has a table of symbols that cannot be read: is it cut?") from None
         if "_text" not in found:
-            raise Refused("--vmlinux has no symbol _text: it is to be a kernel's vmlinux that was not stripped")
+            raise Refused(f"{self.name} has no symbol _text: it is to be a kernel's vmlinux that was not stripped")
         return found
 
     def loaded(self):
@@ -80,12 +84,32 @@ class Vmlinux:
 
     def base(self):
         """The least address of a loaded section, at a page's begin."""
+        if not self.loaded():
+            raise Refused(f"{self.name} has no loaded section: it is to be a kernel's vmlinux")
         return self.loaded()[0].address // PAGE * PAGE
+
+    def table(self):
+        """Where the table of alternatives begins in the flat image, and how many entries it has."""
+        found = [section for section in self.loaded() if section.name == ".altinstructions"]
+        if len(found) != 1:
+            raise Refused(f"{self.name} has {len(found)} loaded sections .altinstructions, and a kernel has one")
+        return found[0].address - self.base(), found[0].size // ENTRY
+
+    def with_loaded(self, other):
+        """The file with the loaded sections' bytes of another file of its length."""
+        data = bytearray(self.data)
+        for section in self.loaded():
+            span = slice(section.place, section.place + section.size)
+            data[span] = other[span]
+        return bytes(data)
 
     def flat(self):
         """What is loaded, from the base on, with zeros where nothing is."""
-        sections, base = self.loaded(), self.base()
-        image = bytearray(max(section.address + section.size for section in sections) - base)
+        base, sections = self.base(), self.loaded()
+        span = max(section.address + section.size for section in sections) - base
+        if span > MOST:
+            raise Refused(f"{self.name} has loaded sections over {span} bytes of memory, and armcaps takes {MOST}")
+        image = bytearray(span)
         for section in sections:
             at = section.address - base
             image[at : at + section.size] = self.data[section.place : section.place + section.size]

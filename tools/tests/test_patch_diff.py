@@ -45,6 +45,29 @@ class Small(unittest.TestCase):
         self.assertIn(["all", "7", "5", "9", "6"], rows)
         self.assertIn(["_text", "6"], rows)
 
+    def of_vmlinux(self):
+        """The same of the kernel's own file."""
+        file, text = self.folder / "vmlinux", self.folder / "text"
+        words = ["--vmlinux", file, "--caps", TOP / "examples/patching/cpucap-defs.h", "--running", "--conduit", "smc"]
+        words += ["--on", "SPECTRE_V4", "--callback", "*=keep", TOP / "examples/big-little.txt"]
+        text.write_bytes(run(TOP / "tools/kernel2text", *words).stdout)
+        patched = run(PROGRAM, "elf", given=text.read_bytes() + file.read_bytes()).stdout
+        (self.folder / "patched").write_bytes(patched)
+        return [TOP / "tools/patch-diff", text, file, self.folder / "patched"]
+
+    def test_a_vmlinux(self):
+        expected = self.answer("--nm", self.folder / "kernel.nm").stdout
+        words = self.of_vmlinux()
+        done = run(*words)
+        self.assertEqual((done.returncode, done.stdout), (0, expected), done.stderr)
+        self.assertIn(b"site 0x120 _text+0x120, WORKAROUND_845719", run(*words, "--site", "_text+0x120").stdout)
+        data = bytearray((self.folder / "patched").read_bytes())
+        data[-1] ^= 1
+        (self.folder / "patched").write_bytes(data)
+        done = run(*words)
+        self.assertEqual((done.returncode, done.stdout), (1, b""))
+        self.assertIn(b"in no loaded section", done.stderr)
+
     def test_one_site(self):
         for place in ("0x124", "_text+0x120"):
             told = self.answer("--nm", self.folder / "kernel.nm", "--site", place).stdout.decode()
