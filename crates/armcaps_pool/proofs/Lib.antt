@@ -9,5 +9,6 @@ pub mod Rightful
 pub mod Judged
 pub mod Covering
 pub mod Verdicts
+pub mod GroupLimits
 mod Worked
 pub mod WorkedImage

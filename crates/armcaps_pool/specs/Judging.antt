@@ -50,8 +50,8 @@ abbrev pub is_wrong_by : Features → List ℕ → List ℕ → List ℕ → Ent
 is_wrong_by features image patched marks entry place =
     not (is_marked marks (place / 4)) && is_other features image patched entry place
 
--- the first words of an entry's site are judged, so many of them: they are marked beside the ones that were, and a place
--- is the first wrong byte of those that weren't
+-- the first words of an entry's site are judged, so many of them: they are marked beside the ones that were, and a
+-- place is the first wrong byte of those that weren't
 pub record IsJudged (features : Features) (image patched old : List ℕ) (entry : Entry) (count : ℕ)
     (marks : List ℕ) (place : ℕ) : Type 0 where
   pub size : length marks ≡ length old

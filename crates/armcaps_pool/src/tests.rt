@@ -143,8 +143,8 @@ fn images_without_entries(rt: HostRuntime) -> Result<(), Fail> {
     Ok(())
 }
 
-// A table of seven entries at the begin, all selected, and from byte 84 on the words of sites and replacements. Two sites
-// overlap, one lies in the table, and there is a callback of each kind.
+// A table of seven entries at the begin, all selected, and from byte 84 on the words of sites and replacements. Two
+// sites overlap, one lies in the table, and there is a callback of each kind.
 const WORKED: [u8; 136] = [
     0x54, 0x00, 0x00, 0x00, 0x74, 0x00, 0x00, 0x00, 0x01, 0x00, 0x08, 0x08, 0x4c, 0x00, 0x00, 0x00,
     0x70, 0x00, 0x00, 0x00, 0x01, 0x00, 0x04, 0x04, 0x44, 0x00, 0x00, 0x00, 0xac, 0x00, 0x00, 0x00,
@@ -208,8 +208,8 @@ fn worked_verdict(rt: &impl Abort, alloc: Global, patched: &[u8]) -> Result<Verd
     )
 }
 
-// The patched image is right. The original is wrong from the site in the table on, and so is the image in each byte with
-// one bit changed, in a word of two sites and the last one too.
+// The patched image is right. The original is wrong from the site in the table on, and so is the image in each byte
+// with one bit changed, in a word of two sites and the last one too.
 #[test]
 fn worked_image(rt: HostRuntime) -> Result<(), Fail> {
     let alloc = rt.alloc();
