@@ -4,6 +4,7 @@
 #   make try         runs it on an example within some twenty seconds, before any proof; COMMAND and TEXT name another
 #   make test        all that can be seen without a proof, in some three minutes: tests, examples, tools and pages
 #   make check       the gate, and the checks of pages and tools after it
+#   make page        makes the program's page, out/armcaps.html, which shows in a browser what it says; wants wasm-opt
 #   make install     copies to DESTDIR and PREFIX; make uninstall removes what it copied
 PREFIX ?= /usr/local
 BINDIR ?= $(PREFIX)/bin
@@ -15,7 +16,7 @@ ZSHDIR ?= $(DATADIR)/zsh/site-functions
 
 VERSION := $(shell cat VERSION)
 PROGRAM := crates/armcaps/out/armcaps
-TOOLS := dump2text explain cmdline-lint kernel2text patch-diff
+TOOLS := dump2text explain cmdline-lint kernel2text patch-diff page
 # the pages for users: not those on how armcaps itself is built and proved
 PAGES := $(filter-out docs/README.md docs/ARCHITECTURE.md docs/DEFINITIONS.md docs/DECISIONS.md docs/THEOREM.md,$(wildcard docs/*.md)) \
 	docs/parked-or-panic.svg docs/rules.svg docs/site.svg
@@ -53,6 +54,13 @@ test:
 check:
 	.ci/run
 
+MODULE := build/webpage/armcaps.wasm
+PAGE := out/armcaps.html
+
+page:
+	tools/webpage/make-module $(MODULE)
+	tools/webpage/make-page $(MODULE) $(PAGE)
+
 install:
 	@test -x $(PROGRAM) || { echo "make install: no $(PROGRAM): run make first" >&2; exit 1; }
 	$(INSTALL) -D $(PROGRAM) "$(DESTDIR)$(BINDIR)/armcaps"
@@ -70,6 +78,7 @@ install:
 	$(INSTALL) -D -m 644 -t "$(LIBRARY)/armcaps_tools/dumps" $(SHAPES)
 	$(INSTALL) -D -m 644 -t "$(LIBRARY)/data" $(TABLES)
 	$(INSTALL) -m 644 VERSION "$(LIBRARY)/VERSION"
+	test ! -f $(PAGE) || { $(INSTALL) -m 644 $(PAGE) "$(LIBRARY)/armcaps.html"; }
 	$(INSTALL) -D -m 644 -t "$(LIBRARY)/idregs" $(IDREGS)
 	$(INSTALL) -D -t "$(LIBRARY)/idregs" tools/idregs/build tools/idregs/run
 	$(INSTALL) -m 644 tools/completion/armcaps.bash "$(DESTDIR)$(BASHDIR)/armcaps"
@@ -85,7 +94,7 @@ uninstall:
 	done
 	rm -f "$(DESTDIR)$(ZSHDIR)/_armcaps"
 	cd "$(DESTDIR)$(DOCDIR)" && rm -f $(notdir $(PAGES)) $(EXAMPLES) $(DUMPS) $(PATCHING)
-	cd "$(LIBRARY)" && rm -f VERSION $(TOOLS) $(patsubst tools/%,%,$(MODULES) $(SHAPES) $(TABLES) $(IDREGS)) idregs/build idregs/run
+	cd "$(LIBRARY)" && rm -f VERSION armcaps.html $(TOOLS) $(patsubst tools/%,%,$(MODULES) $(SHAPES) $(TABLES) $(IDREGS)) idregs/build idregs/run
 	cd "$(LIBRARY)" && rm -rf armcaps_tools/__pycache__ armcaps_tools/dumps/__pycache__
 	-cd "$(LIBRARY)" && rmdir armcaps_tools/dumps armcaps_tools data idregs
 	-rmdir "$(LIBRARY)"
@@ -93,6 +102,6 @@ uninstall:
 	-rmdir "$(DESTDIR)$(DOCDIR)"
 
 clean:
-	rm -rf build crates/*/out
+	rm -rf build out crates/*/out
 
-.PHONY: all try test check install uninstall clean
+.PHONY: all try test check page install uninstall clean

@@ -7,6 +7,7 @@ _armcaps() {
     armcaps-cmdline-lint) options='--linux --file --text --help --version' ;;
     armcaps-kernel2text) options='--image --nm --caps --vmlinux --running --on --off --conduit --callback --padded --rules --help --version' ;;
     armcaps-patch-diff) options='--nm --all --site --help --version' ;;
+    armcaps-page) options='--page --help --version' ;;
     *)
         [ "$COMP_CWORD" = 1 ] && COMPREPLY=($(compgen -W 'report patch mrs demo trace elf jump' -- "$word"))
         return ;;
@@ -22,4 +23,4 @@ _armcaps() {
     *) compopt -o default; COMPREPLY=() ;;
     esac
 }
-complete -F _armcaps armcaps armcaps-dump2text armcaps-explain armcaps-cmdline-lint armcaps-kernel2text armcaps-patch-diff
+complete -F _armcaps armcaps armcaps-dump2text armcaps-explain armcaps-cmdline-lint armcaps-kernel2text armcaps-patch-diff armcaps-page

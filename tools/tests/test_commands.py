@@ -17,6 +17,7 @@ USES = {
     "cmdline-lint": ["--file", "{}"],
     "kernel2text": IMAGE,
     "patch-diff": ["{}", "{}", "{}"],
+    "page": ["--page", "{}", "{}"],
 }
 GOOD = {
     "dump2text": ["examples/dumps/gdb.txt"],
@@ -24,6 +25,7 @@ GOOD = {
     "cmdline-lint": ["quiet arm64.nosve"],
     "kernel2text": ["--rules"],
     "patch-diff": ["--help"],
+    "page": ["--help"],
 }
 
 

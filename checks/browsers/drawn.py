@@ -1,0 +1,70 @@
+"""What the page's elements show, beside what the program's report says."""
+
+from armcaps_tools import fields, profile, text
+
+# everything that is compared, read from the elements alone
+READ = """(() => {
+  const all = (selector, of = document) => [...of.querySelectorAll(selector)];
+  const head = all("#matrix thead th[data-cores]").map((cell) => cell.dataset.cores.split(" ").map(Number));
+  const rows = all("#matrix tbody tr").map((row) =>
+    [row.dataset.field, all("td.value", row).map((cell) => Number(cell.textContent))]);
+  const tags = all("#capabilities ul").map((list) => all("li:not(.lost)", list).map((item) => item.textContent));
+  return {
+    cores: all("#cores .card").map(({ dataset }) => [dataset.cores.split(" ").map(Number), dataset.state, dataset.cause]),
+    head, rows, tags, refusal: document.querySelector("#refusal strong")?.textContent ?? "",
+    marked: document.querySelector("#gutter b")?.textContent ?? null,
+    steps: all("#lanes [data-step]").map(({ dataset }) => `${dataset.step} ${dataset.core} ${dataset.reply}`),
+    report: document.getElementById("report").textContent, trace: document.getElementById("trace").textContent,
+  };
+})()"""
+
+
+class Differs(Exception):
+    """What is drawn is not what the program says."""
+
+
+def same(what, drawn, said):
+    if drawn != said:
+        raise Differs(f"{what}: drawn is {drawn!r}, and the program says {said!r}")
+
+
+def compare_states(drawn, report):
+    """The state and cause of each core, as its card has them."""
+    states = {core: f"{state} {cause}".strip() for cores, state, cause in drawn["cores"] for core in cores}
+    same("states", [states.get(core) for core in range(len(report.states))], report.states)
+
+
+def compare_fields(drawn, machine, report):
+    """Each field of each core, and the system's and the users'."""
+    rows = dict(drawn["rows"])
+    same("fields", list(rows), [fields.name_of(field) for field in profile.fields()])
+    for field in profile.fields():
+        *own, system, users = rows[fields.name_of(field)]
+        by_core = {core: value for cores, value in zip(drawn["head"], own) for core in cores}
+        told = {core: field.value(words.get(field.register, 0)) for core, words in enumerate(machine.cores)}
+        same(fields.name_of(field), by_core, told)
+        same("system", system, field.value(report.system[field.register]))
+        same("users", users, field.value(report.user[field.register]))
+
+
+def compare(drawn, given, answer, trace):
+    """All that a page shows of a document, beside what the program gave for it."""
+    if answer.returncode == 0:
+        machine, report = text.machine(given), text.report(answer.stdout)
+        same("refusal", drawn["refusal"], "")
+        same("report", drawn["report"].encode(), answer.stdout)
+        same("trace", drawn["trace"].encode(), trace.stdout)
+        compare_states(drawn, report)
+        compare_fields(drawn, machine, report)
+        lengths = [list(map(str, report.lengths))] if report.lengths or len(drawn["tags"]) == 3 else []
+        same("tags", drawn["tags"], [report.capabilities, report.flags, *lengths])
+        steps = [line.split(" ", 2)[2] for line in trace.stdout.decode().splitlines() if line.startswith("step ")]
+        same("steps", drawn["steps"], [step for step in steps if not step.startswith("finalise")])
+    elif answer.returncode == 7:
+        _, core, cause = answer.stderr.decode().strip().split(": ", 3)[1:]
+        panics = {core: cause for cores, state, cause in drawn["cores"] if state == "panic" for core in cores}
+        same("panic", panics.get(int(core.split(" ")[1])), cause)
+    else:
+        same("refusal", drawn["refusal"], answer.stderr.decode().strip())
+        words = answer.stderr.split()
+        same("marked line", drawn["marked"], words[2].rstrip(b":").decode() if words[1] == b"line" else None)

@@ -1,0 +1,162 @@
+"""What is tried with the page in a browser. Each trial ends with a line, or with what is not so."""
+
+import hashlib
+import pathlib
+import re
+import subprocess
+import tempfile
+import time
+
+from armcaps_tools import profile, text
+
+from . import documents, drawn, images
+
+TOP = documents.TOP
+NOT_COMPARED = "neither the whole output nor the whole line can be compared"
+
+
+class Trials:
+    """All trials of one page, beside the program."""
+
+    def __init__(self, page, program):
+        self.page, self.program = page, program
+
+    def run(self, words, data):
+        return subprocess.run([self.program, *words.split()], input=data, capture_output=True, check=False)
+
+    def same_run(self, words, data):
+        """The module's status, output and line beside the program's."""
+        program = self.run(words, data)
+        said = program.returncode, program.stdout, program.stderr.decode().strip()
+        drawn.same(words, self.page.run(words, data), said)
+        return program
+
+    def document(self, data):
+        """All of a document without an image: runs of each command, and what is drawn."""
+        report, trace = self.same_run("report", data), self.same_run("trace", data)
+        for core, register in ((0, "id_aa64isar0_el1"), (1, "ctr_el0"), (2, "id_aa64pfr0_el1")):
+            self.same_run(f"mrs {core} {mrs_word(register)}", data)
+        self.page.put(data)
+        drawn.compare(self.page.drawn(), data, report, trace)
+        return report.returncode
+
+    def examples(self):
+        """Every example."""
+        count = 0
+        for path in sorted((TOP / "examples").glob("*.txt")):
+            try:
+                self.document(path.read_bytes())
+            except drawn.Differs as difference:
+                raise drawn.Differs(f"{path.name}: {difference}") from None
+            count += 1
+        return f"{count} examples, by report, trace and mrs, and as they are drawn"
+
+    def random(self, count, first=0):
+        """Documents from numbers."""
+        pool, statuses = documents.known_cores(), {}
+        for seed in range(first, first + count):
+            try:
+                status = self.document(documents.document(seed, pool))
+            except drawn.Differs as difference:
+                raise drawn.Differs(f"document {seed}: {difference}") from None
+            statuses[status] = statuses.get(status, 0) + 1
+        told = ", ".join(f"{number} with status {status}" for status, number in sorted(statuses.items()))
+        return f"{count} random documents ({told}), by report, trace and mrs, and as they are drawn"
+
+    def words(self):
+        """Words that are no command, and `demo`, which reads nothing."""
+        cases = ["", "report x", "mrs 0", "mrs 0 0xD5380600", "demo 7 12", "Report", "demo 0 65", "  report  "]
+        for words in cases:
+            program = self.run(words, b"")
+            said = program.returncode, program.stdout, program.stderr.decode().strip()
+            drawn.same(words, self.page.run(words, b""), said)
+        return f"{len(cases)} lines of words"
+
+    def patch(self, megabytes, entries):
+        """A large image, opened as a file and patched by its button."""
+        given, image = images.document(megabytes * 1000000 & ~15, entries, 1)
+        program = self.run("patch", given + image)
+        drawn.same("status", program.returncode, 0)
+        with tempfile.TemporaryDirectory() as folder:
+            path = pathlib.Path(folder) / "kernel.txt"
+            path.write_bytes(given + image)
+            self.page.choose(path)
+            begin = time.monotonic()
+            self.page.ask("void document.getElementById('patch').click()")
+            self.page.wait("document.body.dataset.patched === String(state.turn)")
+            seconds = time.monotonic() - begin
+        digest = "crypto.subtle.digest('SHA-256', state.patched).then((sum) => [...new Uint8Array(sum)])"
+        drawn.same("patched image", bytes(self.page.ask(digest)), hashlib.sha256(program.stdout).digest())
+        self.counted(given, image, program.stdout)
+        return f"an image of {megabytes} MB patched in {seconds:.2f} s, with the program's bytes"
+
+    def counted(self, given, image, patched):
+        """The page's count of changed words, beside that of the images themselves."""
+        rows = self.page.ask(
+            "[...document.querySelectorAll('#patched tbody tr')].map((row) => "
+            "[row.dataset.number, ...[...row.querySelectorAll('td')].map((cell) => Number(cell.textContent))])"
+        )
+        changed = sum(image[at : at + 4] != patched[at : at + 4] for at in range(0, len(image), 4))
+        entries = int(re.search(rb"^table \d+ (\d+)$", given, re.MULTILINE)[1])
+        drawn.same("entries and changed words", [rows[-1][1], rows[-1][4]], [entries, changed])
+
+    def figures(self):
+        """Times of a report: the first after the page is opened, a warm one, and one of 512 cores."""
+        late = (TOP / "examples/late-core.txt").read_bytes()
+        many = many_cores(512)
+        told = []
+        for what, data, again in (("4 cores", late, 20), ("512 cores", many, 5)):
+            times = []
+            for _ in range(again):
+                times.append(self.page.ask(
+                    "(async () => { const begin = performance.now(); "
+                    f"await engine.run('report', [asBytes(atob('{encoded(data)}'))]); "
+                    "return performance.now() - begin; })()"
+                ))
+            told.append(f"report of {what}: {sorted(times)[len(times) // 2]:.1f} ms")
+        self.same_run("report", many)
+        seconds = self.page.put(many)
+        return "; ".join([*told, f"512 cores read and drawn in {seconds:.2f} s"])
+
+    def look(self):
+        """A page that is not left without a name for what can be used."""
+        names = self.page.ask(
+            "[...document.querySelectorAll('button, input, select, textarea')].filter((one) => !(one.textContent.trim() "
+            "|| one.getAttribute('aria-label') || one.labels?.length)).map((one) => one.id)"
+        )
+        drawn.same("elements without a name", names, [])
+        return "every button and field has a name"
+
+    def keys(self):
+        """The matrix by keys alone."""
+        self.page.put((TOP / "examples/big-little.txt").read_bytes())
+        self.page.ask("void document.querySelector('#matrix td.value').focus()")
+        for key in ("ArrowRight", "ArrowDown", "ArrowDown", "ArrowLeft"):
+            self.page.browser.press(key)
+        label = self.page.ask("document.activeElement.getAttribute('aria-label')")
+        drawn.same("focus", label, "id_aa64pfr0.el2, cores 0-3: 0")
+        drawn.same("detail", self.page.ask("document.querySelector('#detail h3').textContent"), "id_aa64pfr0.el2")
+        return "the matrix is gone through by arrow keys, and what is focused is explained"
+
+
+def encoded(data):
+    import base64
+
+    return base64.b64encode(data).decode()
+
+
+def mrs_word(name):
+    register = profile.by_name()[name]
+    parts = register.op1 << 16 | register.crn << 12 | register.crm << 8 | register.op2 << 5
+    return f"{0xD5380000 | parts:#x}"
+
+
+def many_cores(count):
+    """The cores of an example again and again, in format 2."""
+    cores = text.machine((TOP / "examples/big-little.txt").read_bytes()).cores
+    lines = ["armcaps 2"]
+    for number in range(count):
+        lines.append(f"core {number}")
+        lines += [f"{name} {word:#x}" for name, word in cores[number % len(cores)].items()]
+    lines += ["boot 0", *(f"online {number}" for number in range(1, count)), "finalise", "end", ""]
+    return "\n".join(lines).encode()

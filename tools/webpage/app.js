@@ -1,0 +1,233 @@
+// What the page does on what is typed, chosen and dropped.
+
+const LONGEST_TEXT = 1 << 20, LONGEST_LINK = 16000, MOST_LINES = 20000, FIRST = "late-core";
+
+/** The numbers of the editor's lines, that of a refused one marked. */
+function drawGutter(refused) {
+  const lines = $("text").value.split("\n").length, shown = Math.min(lines, MOST_LINES);
+  const upTo = (from, to) => Array.from({ length: Math.max(0, to - from) }, (_, at) => `${from + at}\n`).join("");
+  if (refused && refused <= shown) {
+    fill("gutter", upTo(1, refused), element("b", {}, String(refused)), "\n", upTo(refused + 1, shown + 1));
+    bringLine(refused);
+  } else $("gutter").textContent = upTo(1, shown + 1);
+  $("gutter").scrollTop = $("text").scrollTop;
+}
+
+/** Scrolls the editor to a line that is out of sight. */
+function bringLine(line) {
+  const text = $("text"), height = parseFloat(getComputedStyle(text).lineHeight), top = (line - 1) * height;
+  const isSeen = top >= text.scrollTop && top <= text.scrollTop + text.clientHeight - 2 * height;
+  if (!isSeen) text.scrollTop = Math.max(0, top - text.clientHeight / 3);
+}
+
+function goToLine(line) {
+  const text = $("text"), lines = text.value.split("\n");
+  const from = lines.slice(0, line - 1).reduce((sum, one) => sum + one.length + 1, 0);
+  text.focus();
+  text.setSelectionRange(from, from + (lines[line - 1] ?? "").length);
+  bringLine(line);
+}
+
+const isExample = (text) => DATA.examples.some((one) => one.text === text);
+
+/** Another text in the editor; a text of the user's own can be had back. */
+function setText(bytes) {
+  const text = $("text");
+  if (text.value.trim() && !isExample(text.value)) {
+    state.before = { bytes: ownBytes(), image: state.image, imageName: state.imageName };
+    $("back").hidden = false;
+  }
+  text.value = decoder.decode(bytes);
+  // what the editor would change stays as it is until the text is edited
+  const isSame = asCharacters(encoder.encode(text.value)) === asCharacters(bytes);
+  Object.assign(state, { loaded: isSame ? null : bytes, image: null, imageName: "", commandLine: null, isEdit: false });
+  $("cmdline").value = "";
+  $("examples").value = DATA.examples.find((one) => one.text === text.value)?.name ?? "";
+}
+
+function back() {
+  const { bytes, image, imageName } = state.before;
+  setText(bytes);
+  Object.assign(state, { image, imageName });
+  note("");
+  show();
+}
+
+function dropReturns() {
+  setText(ownBytes().filter((byte) => byte !== 13));
+  show();
+}
+
+function note(words) {
+  $("file-note").textContent = words;
+  $("file-note").hidden = !words;
+}
+
+/** A file is a text, the image that a text names, or both. Of any other the page says what it is, and goes on. */
+async function take(file) {
+  note("");
+  const wanted = state.machine?.image ?? 0;
+  if (wanted && file.size === wanted) return takeImage(file);
+  const start = new Uint8Array(await file.slice(0, LONGEST_TEXT).arrayBuffer()), cut = endOfText(start);
+  const isText = asCharacters(start.subarray(0, 8)) === "armcaps ";
+  if (!isText && start.includes(0)) return note(`${file.name} is no text. ${imageHint(file.size, wanted)} ${KEPT}`);
+  if (cut === start.length && file.size > LONGEST_TEXT) {
+    return note(`${file.name} has ${file.size} bytes, and a machine text at most ${LONGEST_TEXT}. ${KEPT}`);
+  }
+  setText(start.subarray(0, cut));
+  if (cut < file.size) {
+    const image = new Uint8Array(await file.slice(cut).arrayBuffer());
+    Object.assign(state, { image, imageName: `${file.name}.image` });
+  }
+  show();
+}
+
+const KEPT = "The text in the editor is kept.";
+
+function imageHint(size, wanted) {
+  if (wanted) return `It has ${size} bytes, and the text names an image of ${wanted}.`;
+  return `If it is a kernel image, let the text end in image ${size}: armcaps-kernel2text writes such a text.`;
+}
+
+async function takeImage(file) {
+  Object.assign(state, { image: new Uint8Array(await file.arrayBuffer()), imageName: file.name });
+  show();
+}
+
+function drawImageNote() {
+  const wanted = state.machine?.image ?? 0, hasImage = state.image !== null;
+  $("image").hidden = wanted === 0 && !hasImage;
+  $("image-note").textContent = hasImage
+    ? `${state.imageName} has ${state.image.length} bytes; the text names ${wanted}.`
+    : `The text names an image of ${wanted} bytes: open that file to patch it. Nothing else on this page needs it.`;
+  $("patch").disabled = !hasImage || state.report === null;
+}
+
+function forgetPatch() {
+  state.patched = null;
+  $("save-image").disabled = true;
+  for (const id of ["patch-answer", "patched"]) fill(id);
+}
+
+async function patch() {
+  const turn = ++state.turn;
+  forgetPatch();
+  $("stop").disabled = false;
+  $("patch-answer").textContent = "Patching.";
+  const answer = await engine.run("patch", [textBytes(), state.image]);
+  if (turn !== state.turn) return;
+  $("stop").disabled = true;
+  const entry = answer.err.match(/patch: entry \d+: kind (\d+)/);
+  if (answer.status === 0) showPatched(answer.out);
+  else $("patch-answer").textContent = `${answer.err}${entry ? `. ${DATA.entries[entry[1]]}` : ""}`;
+  document.body.dataset.patched = String(turn);
+}
+
+function showPatched(patched) {
+  state.patched = patched;
+  $("save-image").disabled = false;
+  const changes = changesByName(state.machine, state.report, state.image, patched);
+  $("patch-answer").textContent = `${patched.length} bytes, ${changes.changed} words of four bytes changed.`;
+  drawChanges(changes);
+}
+
+function save(name, bytes) {
+  const link = element("a", { href: URL.createObjectURL(new Blob([bytes])), download: name });
+  document.body.append(link);
+  link.click();
+  link.remove();
+  setTimeout(() => URL.revokeObjectURL(link.href), 60000);
+}
+
+function load(name) {
+  setText(encoder.encode(DATA.examples.find((one) => one.name === name).text));
+  note("");
+  show();
+}
+
+/** Ends what runs; what is drawn stays. */
+function stop() {
+  state.turn++;
+  engine.stop();
+  $("stop").disabled = true;
+  note("Stopped. Any change runs the program again.");
+  $("patch-answer").textContent = "";
+}
+
+function listen() {
+  let soon = 0;
+  const later = () => {
+    clearTimeout(soon);
+    soon = setTimeout(show, 250);
+  };
+  const on = (id, events, act) => events.split(" ").forEach((event) => $(id).addEventListener(event, act));
+  on("examples", "change", () => $("examples").value && load($("examples").value));
+  on("text", "input", () => {
+    state.loaded = null;
+    later();
+  });
+  on("text", "scroll", () => { $("gutter").scrollTop = $("text").scrollTop; });
+  on("cmdline", "input", () => {
+    state.commandLine = $("cmdline").value;
+    later();
+  });
+  on("cmdline-off", "click", () => {
+    state.commandLine = null;
+    $("cmdline").value = "";
+    show();
+  });
+  on("file", "change", async () => {
+    if ($("file").files[0]) await take($("file").files[0]);
+    $("file").value = "";
+  });
+  on("quiet", "change", drawFields);
+  on("find", "input", drawFields);
+  on("mrs-core", "change", readUser);
+  on("mrs-word", "change", readUser);
+  on("mrs-register", "change", () => {
+    $("mrs-word").value = mrsWord(registerByName.get($("mrs-register").value));
+    readUser();
+  });
+  const clicks = {
+    stop, back, patch, link: makeLink, "save-text": () => save("board.txt", textBytes()),
+    "save-image": () => save(`${state.imageName || "image"}.patched`, state.patched),
+    "save-report": () => save("board.report", $("report").textContent),
+  };
+  for (const [id, act] of Object.entries(clicks)) on(id, "click", act);
+}
+
+function listenToDrops() {
+  const editor = document.querySelector(".editor");
+  const over = (is) => (event) => {
+    event.preventDefault();
+    editor.classList.toggle("over", is);
+  };
+  document.addEventListener("dragover", over(true));
+  document.addEventListener("dragleave", over(false));
+  document.addEventListener("drop", (event) => {
+    over(false)(event);
+    if (event.dataTransfer.files[0]) take(event.dataTransfer.files[0]);
+  });
+}
+
+async function begin() {
+  const options = (id, rows) => $(id).append(...rows.map(([value, words]) => element("option", { value }, words)));
+  const examples = DATA.examples.map(({ name, about }) => [name, `${name}: ${about}`]);
+  options("examples", [["", "a text of your own"], ...examples]);
+  options("aliases", DATA.aliases.map((alias) => [alias, ""]));
+  options("mrs-register", DATA.registers.map(({ name }) => [name, name]));
+  $("mrs-register").value = "id_aa64isar0_el1";
+  $("mrs-word").value = mrsWord(registerByName.get("id_aa64isar0_el1"));
+  listen();
+  listenToDrops();
+  const given = JSON.parse($("given").textContent), linked = await textOfLink();
+  if (linked) {
+    setText(linked);
+    show();
+  } else if (given) {
+    document.title = `${given.name}: armcaps`;
+    take(new File([asBytes(atob(given.data))], given.name));
+  } else load(FIRST);
+}
+
+begin();
