@@ -91,9 +91,9 @@ class Chromium:
         for event in ("rawKeyDown", "keyUp"):
             self.call("Input.dispatchKeyEvent", type=event, key=key, code=key, windowsVirtualKeyCode=KEYS[key])
 
-    def look(self, width, height, dark=False, media=""):
+    def look(self, width, height, dark=False, media="", scale=1):
         """The size of the window, and what the user prefers."""
-        size = {"width": width, "height": height, "deviceScaleFactor": 1, "mobile": width < 600}
+        size = {"width": width, "height": height, "deviceScaleFactor": scale, "mobile": width < 600}
         self.call("Emulation.setDeviceMetricsOverride", **size)
         features = [{"name": "prefers-color-scheme", "value": "dark" if dark else "light"}]
         self.call("Emulation.setEmulatedMedia", media=media, features=features)

@@ -12,8 +12,10 @@ class Page:
 
     def __init__(self, browser, path):
         self.browser = browser
+        begin = time.monotonic()
         browser.open(f"file://{path}")
         self.wait("Number(document.body.dataset.shown ?? 0) > 0")
+        self.seconds = time.monotonic() - begin
         self.ask("document.getElementById('quiet').click()")
 
     def ask(self, expression, seconds=300):

@@ -1,27 +1,43 @@
 """Pictures of the page: as README shows it, and in dark, on a phone and as it prints, to be looked at."""
 
+from armcaps_tools import text
+
 from .documents import TOP
 
 SHOWN = "late-core"
-# README's picture ends with the rows of fields that keep the core off
-FOCUS = "[...document.querySelectorAll('#matrix td.conflict')].at(-1)"
+CONFLICT = "[...document.querySelectorAll('#matrix td.limits')][2]"
 
 
-def shot(page, path, width, height=None, **look):
-    """A picture of the whole page, or of its first part."""
+def shot(page, path, width, **look):
+    """A picture of the whole page."""
     page.browser.look(width, 800, **look)
-    whole = page.ask("document.documentElement.scrollHeight")
-    page.browser.look(width, height or whole, **look)
+    page.browser.look(width, page.ask("document.documentElement.scrollHeight"), **look)
     page.browser.picture(path)
 
 
-def of_readme(page, path):
-    """The verdict, the timeline and the fields, with the field that keeps a core off explained."""
-    page.put((TOP / f"examples/{SHOWN}.txt").read_bytes())
+def quiet_rows_folded(page):
     page.ask("document.getElementById('quiet').checked && document.getElementById('quiet').click()")
+
+
+def board():
+    """Two Neoverse N1, a Cortex-A72 that lowers fields, a Cortex-A53 that comes late and is parked, and a core that goes
+    and comes back."""
+    cores = {name: text.machine((TOP / f"examples/{name}.txt").read_bytes()).cores for name in (SHOWN, "big-little")}
+    n1, a53, a72 = cores[SHOWN][0], cores[SHOWN][2], cores["big-little"][4]
+    lines = ["armcaps 2"]
+    for number, words in enumerate((n1, n1, a72, a53)):
+        lines += [f"core {number}", *(f"{name} {word:#x}" for name, word in words.items())]
+    steps = ["online 1", "online 2", "finalise", "online 3", "offline 1", "online 1", "end", ""]
+    return "\n".join([*lines, "boot 0", "cmdline id_aa64isar0.aes=1", *steps]).encode()
+
+
+def of_readme(page, path):
+    """The verdict, the timeline and the fields, with one of them explained."""
+    page.put(board())
+    quiet_rows_folded(page)
     page.browser.call("Emulation.setScrollbarsHidden", hidden=True)
-    page.browser.look(1160, 1230)
-    page.ask(f"void {FOCUS}.dispatchEvent(new Event('mouseover', {{ bubbles: true }}))")
+    page.browser.look(1160, 1340, scale=0.8)
+    page.ask(f"void {CONFLICT}.dispatchEvent(new Event('mouseover', {{ bubbles: true }}))")
     page.ask("void document.getElementById('verdict').scrollIntoView()")
     page.browser.picture(path)
 
@@ -29,12 +45,11 @@ def of_readme(page, path):
 def all_of(page, folder):
     """Pictures to be looked at: each example in light, and one of them in dark, on a phone and as it prints."""
     folder.mkdir(parents=True, exist_ok=True)
-    page.ask("document.getElementById('quiet').checked && document.getElementById('quiet').click()")
+    quiet_rows_folded(page)
     for path in sorted((TOP / "examples").glob("*.txt")):
         page.put(path.read_bytes())
         shot(page, folder / f"{path.stem}.png", 1200)
-    page.put((TOP / f"examples/{SHOWN}.txt").read_bytes())
+    page.put(board())
     shot(page, folder / "dark.png", 1200, dark=True)
     shot(page, folder / "phone.png", 390)
     shot(page, folder / "print.png", 800, media="print")
-    of_readme(page, folder / "readme.png")

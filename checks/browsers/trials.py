@@ -1,5 +1,6 @@
 """What is tried with the page in a browser. Each trial ends with a line, or with what is not so."""
 
+import base64
 import hashlib
 import pathlib
 import re
@@ -12,7 +13,6 @@ from armcaps_tools import profile, text
 from . import documents, drawn, images
 
 TOP = documents.TOP
-NOT_COMPARED = "neither the whole output nor the whole line can be compared"
 
 
 class Trials:
@@ -101,25 +101,24 @@ class Trials:
         drawn.same("entries and changed words", [rows[-1][1], rows[-1][4]], [entries, changed])
 
     def figures(self):
-        """Times of a report: the first after the page is opened, a warm one, and one of 512 cores."""
+        """Times: the page opened and drawn, a warm report, and one of 512 cores."""
         late = (TOP / "examples/late-core.txt").read_bytes()
         many = many_cores(512)
         told = []
         for what, data, again in (("4 cores", late, 20), ("512 cores", many, 5)):
             times = []
             for _ in range(again):
-                times.append(self.page.ask(
-                    "(async () => { const begin = performance.now(); "
-                    f"await engine.run('report', [asBytes(atob('{encoded(data)}'))]); "
-                    "return performance.now() - begin; })()"
-                ))
+                running = f"engine.run('report', [asBytes(atob('{encoded(data)}'))])"
+                clock = "const begin = performance.now(); await {}; return performance.now() - begin;"
+                times.append(self.page.ask(f"(async () => {{ {clock.format(running)} }})()"))
             told.append(f"report of {what}: {sorted(times)[len(times) // 2]:.1f} ms")
         self.same_run("report", many)
         seconds = self.page.put(many)
-        return "; ".join([*told, f"512 cores read and drawn in {seconds:.2f} s"])
+        drawn_in = f"512 cores read and drawn in {seconds:.2f} s"
+        return "; ".join([f"opened and drawn in {self.page.seconds:.2f} s", *told, drawn_in])
 
-    def look(self):
-        """A page that is not left without a name for what can be used."""
+    def names(self):
+        """A name for all that can be used."""
         names = self.page.ask(
             "[...document.querySelectorAll('button, input, select, textarea')].filter((one) => !(one.textContent.trim() "
             "|| one.getAttribute('aria-label') || one.labels?.length)).map((one) => one.id)"
@@ -140,8 +139,6 @@ class Trials:
 
 
 def encoded(data):
-    import base64
-
     return base64.b64encode(data).decode()
 
 

@@ -42,6 +42,7 @@ function remedyInWords(state, cause) {
   if (state === "panic") return `Leave this core out (drop its steps), or ${held}.`;
   const row = DATA.capabilities.find((one) => one.name === name);
   if (kind === "cap" && row?.class.includes("boot")) return `Boot on this core, or ${held}.`;
+  if (kind === "cap" && row?.class === "erratum") return `${early} and the workaround is on.`;
   return kind === "vl" ? `${early}; or turn SVE off for all by arm64.nosve.` : `${early}; or ${held}.`;
 }
 

@@ -224,13 +224,6 @@ i64 write(int file, u8 *piece, u64 count)
     return (i64)count;
 }
 
-/* The program asks that a closed pipe be told by `write`; there is none here. */
-i64 __sysv_signal(int number, i64 handler)
-{
-    (void)number, (void)handler;
-    return 0;
-}
-
 int program_main(void);
 
 EXPORT("page_room") void *page_room(u64 size)

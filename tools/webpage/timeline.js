@@ -17,10 +17,12 @@ function stepsWithChanges(steps, initial) {
   });
 }
 
-function stepInWords(step, index) {
-  const core = step.core === null ? "" : ` ${step.core}`;
-  const changes = step.fields.map(({ field, from, to }) => `; ${nameOf(field)} ${from} to ${to}`);
-  return `step ${index + 1}: ${step.word}${core} ${step.reply}${changes.join("")}`;
+/** A step with its reply and the fields that it changed, at most so many of them. */
+function stepInWords(step, index, most) {
+  const core = step.core === null ? "" : ` ${step.core}`, { fields } = step;
+  const changes = fields.slice(0, most).map(({ field, from, to }) => `; ${nameOf(field)} ${from} to ${to}`);
+  const more = fields.length > most ? `; ${fields.length - most} more fields` : "";
+  return `step ${index + 1}: ${step.word}${core} ${step.reply}${changes.join("")}${more}`;
 }
 
 function timelineInWords(steps) {
@@ -34,7 +36,7 @@ function timelineInWords(steps) {
 
 function drawTimeline(machine, steps) {
   const told = steps.filter((step) => step.fields.length || step.reply.startsWith("parked") || step.word === "offline");
-  fill("events", told.slice(0, MOST_EVENTS).map((step) => element("li", {}, stepInWords(step, steps.indexOf(step)))),
+  fill("events", told.slice(0, MOST_EVENTS).map((step) => element("li", {}, stepInWords(step, steps.indexOf(step), 6))),
     told.length > MOST_EVENTS ? element("li", {}, `${told.length - MOST_EVENTS} more, in the trace`) : "");
   if (steps.length <= MOST_STEPS) drawLanes(machine, steps);
   else fill("lanes", element("p", {}, `${steps.length} steps are too many for a picture: the trace has them all.`));
@@ -57,7 +59,7 @@ function drawLanes(machine, steps) {
     drawLane(svg, core === machine.boot, own.get(core) ?? [], x, y(core), width);
   }
   steps.forEach((step, index) => {
-    const title = element("title", {}, stepInWords(step, index));
+    const title = element("title", {}, stepInWords(step, index, 24));
     if (step.word === "finalise") {
       svg.append(element("line", { class: "final", x1: x(index), x2: x(index), y1: 2, y2: height - LANE.row }, title));
       svg.append(element("text", { x: Math.max(LANE.left, x(index) - 26), y: height - 8, class: "quiet" }, "finalise"));
