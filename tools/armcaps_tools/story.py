@@ -4,7 +4,7 @@ from . import conflicts, fields, machine, profile, text
 
 HEAD = ["field", "bits", "rule", "cores", "system", "users", "why"]
 LEGEND = {
-    "cores": "the admitted cores' own values; 0-6/2 are the cores 0, 2, 4 and 6",
+    "cores": "the admitted cores' own values; 0-6/2 are the cores 0, 2, 4 and 6, and 0-19:4/8 the first 4 of each 8",
     "cores differ": "the admitted cores differ, in a field in which the report says `varies`",
     "cores differ, as they may": "they differ, in a field that is not strict",
     "limited": "some admitted core has another value than the system's, which is what all can keep to",

@@ -96,16 +96,38 @@ def report(data):
 
 
 def spans(numbers):
-    """Rising numbers in short, as 0-3, 7; and 0-6/2 for 0, 2, 4, 6."""
-    numbers, found, at = list(numbers), [], 0
-    while at < len(numbers):
-        step = numbers[at + 1] - numbers[at] if at + 1 < len(numbers) else 1
-        end = at
-        while end + 1 < len(numbers) and numbers[end + 1] - numbers[end] == step:
-            end += 1
-        if step > 1 and end - at < 3:
-            end = at
-        low, high = numbers[at], numbers[end]
-        found.append(f"{low}-{high}" + (f"/{step}" if step > 1 else "") if high > low else str(low))
-        at = end + 1
+    """Rising numbers in short, as 0-3, 7; 0-6/2 for 0, 2, 4, 6; and 0-19:4/8, as in Linux's lists of CPUs, for the
+    first 4 of each 8.
+    """
+    runs, found, at = runs_of(numbers), [], 0
+    while at < len(runs):
+        low, high = runs[at]
+        count, step = alike(runs[at:])
+        if count >= (3 if high > low else 4):
+            used = f":{high - low + 1}" if high > low else ""
+            found.append(f"{low}-{runs[at + count - 1][1]}{used}/{step}")
+        else:
+            count = 1
+            found.append(f"{low}-{high}" if high > low else str(low))
+        at += count
     return ", ".join(found)
+
+
+def runs_of(numbers):
+    """The first and the last number of each run without a gap."""
+    runs = []
+    for number in numbers:
+        if runs and number == runs[-1][1] + 1:
+            runs[-1] = runs[-1][0], number
+        else:
+            runs.append((number, number))
+    return runs
+
+
+def alike(runs):
+    """How many runs from the first on are as long as it and equally far from each other, and how far."""
+    (low, high), step = runs[0], runs[1][0] - runs[0][0] if len(runs) > 1 else 0
+    count = 1
+    while count < len(runs) and runs[count] == (low + count * step, high + count * step):
+        count += 1
+    return count, step

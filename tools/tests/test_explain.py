@@ -172,6 +172,22 @@ class Options(unittest.TestCase):
         self.assertEqual(text.spans(range(0, 512, 2)), "0-510/2")
         self.assertEqual(text.spans([0, 1, 2, 3, 7]), "0-3, 7")
         self.assertEqual(text.spans([0, 2, 3, 5, 7, 9]), "0, 2-3, 5, 7, 9")
+        self.assertEqual(text.spans([core for core in range(512) if core % 8 < 4]), "0-507:4/8")
+        self.assertEqual(text.spans([0, 1, 4, 5, 8, 9, 13]), "0-9:2/4, 13")
+        self.assertEqual(text.spans([0, 1, 4, 5, 9]), "0-1, 4-5, 9")
+        self.assertEqual(text.spans([]), "")
+
+    def test_short_lists_of_cores_are_those_cores(self):
+        """Each list of cores below 10 in short stands for it, as Linux reads such lists (lib/bitmap-str.c)."""
+        for bits in range(1 << 10):
+            cores, found = [core for core in range(10) if bits >> core & 1], []
+            for part in filter(None, text.spans(cores).split(", ")):
+                span, _, stride = part.partition("/")
+                low, _, rest = span.partition("-")
+                high, _, used = rest.partition(":")
+                step, width = int(stride or 1), int(used or 1)
+                found += [core for core in range(int(low), int(high or low) + 1) if (core - int(low)) % step < width]
+            self.assertEqual(found, cores)
 
 
 if __name__ == "__main__":
