@@ -8,11 +8,16 @@ from .command import Refused
 HEADER = struct.Struct("<16sHHIQQQIHHHHHH")
 SECTION = struct.Struct("<IIQQQQIIQQ")
 SYMBOL = struct.Struct("<IBBHQQ")
+RELOCATION = struct.Struct("<QQQ")
+NUMBER, POINTER = struct.Struct("<H"), struct.Struct("<Q")
 MACHINE = 183
-ALLOC, NOTHING, SYMBOLS, NO_BYTES = 2, 0, 2, 8
+ALLOC, NOTHING, SYMBOLS, RELOCATIONS, NO_BYTES = 2, 0, 2, 4, 8
+R_AARCH64_RELATIVE = 1027
+DESCRIBED = ("arm64_features", "arm64_errata")
 PAGE = 4096
 ENTRY = 12
 MOST = 134217728
+DESCRIPTION = 100
 
 
 @dataclasses.dataclass(frozen=True)
@@ -65,18 +70,52 @@ class Vmlinux:
 
     def symbols(self):
         """Each symbol's address, by name."""
+        return {name: address for name, (address, _) in self.spans().items()}
+
+    def spans(self):
+        """Each symbol's address and size, by name."""
         found = {}
         try:
             for section in (section for section in self.sections if section.kind == SYMBOLS):
                 names = self.sections[section.link].place
                 rows = self.data[section.place : section.place + section.size]
-                for name, _, _, index, value, _ in SYMBOL.iter_unpack(rows):
+                for name, _, _, index, value, size in SYMBOL.iter_unpack(rows):
                     if name and index:
-                        found[word_ending_at_zero(self.data, names + name)] = value
+                        found[word_ending_at_zero(self.data, names + name)] = value, size
         except (IndexError, ValueError, struct.error):
             raise Refused(f"{self.name} has a table of symbols that cannot be read: is it cut?") from None
         if "_text" not in found:
             raise Refused(f"{self.name} has no symbol _text: it is to be a kernel's vmlinux that was not stripped")
+        return found
+
+    def described(self, image):
+        """The number that the kernel's tables give each description; `image` is the flat image.
+
+        An entry begins with a pointer to its description, and the number follows. The pointer stands in the entry, or
+        in a relocation where the kernel can be loaded anywhere.
+        """
+        spans, base, found = self.spans(), self.base(), {}
+        pointers = self.relocations()
+        for begin, size in (spans[name] for name in DESCRIBED if name in spans):
+            for address in range(begin, begin + size - POINTER.size - NUMBER.size + 1, POINTER.size):
+                at = address - base
+                text = (pointers.get(address) or POINTER.unpack_from(image, at)[0]) - base
+                if 0 <= text < len(image):
+                    end = image.find(b"\0", text, text + DESCRIPTION)
+                    if end > text:
+                        told = image[text:end].decode("latin-1")
+                        found.setdefault(told, NUMBER.unpack_from(image, at + POINTER.size)[0])
+        return found
+
+    def relocations(self):
+        """The address that the loader puts at each place, for a kernel that is loaded where it was linked."""
+        found = {}
+        for section in self.sections:
+            if section.kind == RELOCATIONS and section.flags & ALLOC:
+                size = section.size // RELOCATION.size * RELOCATION.size
+                for place, kind, address in RELOCATION.iter_unpack(self.data[section.place : section.place + size]):
+                    if kind == R_AARCH64_RELATIVE:
+                        found[place] = address
         return found
 
     def loaded(self):

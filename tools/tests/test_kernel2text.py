@@ -24,13 +24,13 @@ def run(*command, given=None):
     return subprocess.run([str(part) for part in command], input=given, capture_output=True, check=False, cwd=TOP)
 
 
-def vmlinux(image, symbols, table):
+def vmlinux(image, symbols, table, sizes={}):
     """An ELF64 file with a section for the image before its table, one for the table, and one of no bytes behind."""
     base, begin = symbols["_text"], table - symbols["_text"]
     names = b"\0.text\0.altinstructions\0.bss\0.symtab\0.strtab\0.shstrtab\0"
     strings, entries = b"\0", b"\0" * 24
     for name, address in symbols.items():
-        entries += struct.pack("<IBBHQQ", len(strings), 0, 0, 1, address, 0)
+        entries += struct.pack("<IBBHQQ", len(strings), 0, 0, 1, address, sizes.get(name, 0))
         strings += name.encode() + b"\0"
     parts = [image, entries, strings, names]
     places = [64 + sum(len(part) for part in parts[:index]) for index in range(5)]
@@ -187,6 +187,21 @@ class Files(Small):
         found = run(TOP / "tools/kernel2text", *words, given=TEXT.encode())
         told = run(TOP / "tools/kernel2text", *words, "--caps", CAPS, given=TEXT.encode())
         self.assertEqual((found.returncode, found.stdout), (0, told.stdout))
+
+    def test_numbers_that_the_kernel_describes_otherwise(self):
+        symbols = kernel.symbols((self.folder / "kernel.nm").read_bytes())
+        symbols["arm64_features"] = symbols["_text"] + 0x3800
+        for number, status in [(35, 0), (83, 1)]:
+            image = bytearray(self.image)
+            image[0x3800:0x380A] = struct.pack("<QH", symbols["_text"] + 0x3900, number)
+            image[0x3900:0x3918] = b"LSE atomic instructions\0"
+            file = self.folder / "vmlinux"
+            file.write_bytes(vmlinux(bytes(image), symbols, symbols["__alt_instructions"], {"arm64_features": 24}))
+            words = ["--vmlinux", file, "--caps", CAPS, "--running", *KEEP, "-"]
+            done = run(TOP / "tools/kernel2text", *words, given=TEXT.encode())
+            with self.subTest(number=number):
+                self.assertEqual(done.returncode, status, done.stderr)
+                self.assertEqual(b"'LSE atomic instructions' in this kernel" in done.stderr, bool(status))
 
     def test_a_file_above_the_limit(self):
         with open(self.folder / "kernel.img", "r+b") as file:
