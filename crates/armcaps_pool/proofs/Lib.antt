@@ -10,5 +10,6 @@ pub mod Judged
 pub mod Covering
 pub mod Verdicts
 pub mod GroupLimits
+pub mod Agreeing
 mod Worked
 pub mod WorkedImage

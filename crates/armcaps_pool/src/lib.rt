@@ -17,7 +17,10 @@ mod tests;
 mod verdict;
 
 pub use auditing::audit;
-pub use laws::{differences_are_told, groups_keep_their_limits, groups_make_one_baseline};
+pub use laws::{
+    differences_are_told, groups_keep_their_limits, groups_make_one_baseline,
+    known_capabilities_decide,
+};
 pub use pool_baseline::Baseline;
 pub use pooling::baseline;
 pub use verdict::Verdict;
