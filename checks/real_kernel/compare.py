@@ -106,13 +106,18 @@ class Sites:
         return "".join(f"{place:#x}\t{ours:#010x}\t{theirs:#010x}\t{name}\n" for place, ours, theirs, name in self.rows)
 
 
+def is_freed(found, place):
+    """Whether a place is one of those that a kernel frees when it has booted: __init, and what is before _stext."""
+    freed = [(found.offset("__init_begin"), found.offset("__init_end")), (0, found.offset("_stext"))]
+    return any(begin <= place < end for begin, end in freed)
+
+
 def sites(found, patched, memory):
     """Each word of each site in the patched image and in a kernel's memory.
 
-    What the kernel frees when it has booted (its __init code, and what is before _stext) is not there any more.
+    What the kernel frees when it has booted is not there any more.
     """
     names, total, seen = found.names_at(), Sites(), set()
-    freed = [(found.offset("__init_begin"), found.offset("__init_end")), (0, found.offset("_stext"))]
     entries = list(found.entries())
     called = {
         place: names.get(entry.other, ["?"])[0].replace("__kvm_nvhe_", "")
@@ -124,7 +129,7 @@ def sites(found, patched, memory):
         if place in seen:
             continue
         seen.add(place)
-        if any(begin <= place < end for begin, end in freed):
+        if is_freed(found, place):
             total.freed += 1
             continue
         ours, theirs = word_at(patched, place), word_at(memory, place)

@@ -9,17 +9,16 @@ import collections
 import json
 import pathlib
 import re
-import struct
 import subprocess
 
 from armcaps_tools import kernel, machine, vmlinux
 
+from . import labels as jump_labels
 from . import objects, qemu
 from .trial import RESULT, TOP
 
 BOARD = qemu.Board("max", "virtualization=on")
 CORES = 4
-JUMP = struct.Struct("<iiq")
 
 
 class Failed(Exception):
@@ -144,7 +143,7 @@ class Files:
         told = re.search(r"`(jump (0x[0-9a-f]+) (\d+))`", said)
         words, table, count = told[1].split(), int(told[2], 16), int(told[3])
         image = padded.read_bytes()
-        labels = [Label.of(image, table + 16 * index) for index in range(count)]
+        labels = jump_labels.of_table(image, table, count)
         names = kernel.of_image(image, kernel.symbols(self.build.nm.read_bytes())).names_at()
         found = {"entries": count, "keys": len({label.key for label in labels}), "padded": len(image)}
         built = self.run(words, text, image)
@@ -157,7 +156,7 @@ class Files:
     def as_built(self, image, patched, out, labels, names, strange):
         """The words at the code places of the image as it was built: those that are kept, and those whose key is on."""
         places = {label.code: label for label in labels}
-        if rest_of(out, places) != rest_of(patched, places):
+        if jump_labels.rest_of(out, places) != jump_labels.rest_of(patched, places):
             strange.append("jump: bytes outside code places are not those of patch")
         kept = {at for at in places if out[at : at + 4] == image[at : at + 4]}
         others, off = sorted(set(places) - kept), []
@@ -177,7 +176,7 @@ class Files:
             on[key : key + 4] = (1).to_bytes(4, "little")
         out, patched = self.run(words, text, on), self.run(["patch"], text, on)
         last = {label.code: label for label in labels}
-        if rest_of(out, last) != rest_of(patched, last):
+        if jump_labels.rest_of(out, last) != jump_labels.rest_of(patched, last):
             strange.append("jump, keys on: bytes outside code places are not those of patch")
         file = self.work / "switched"
         file.write_bytes(out)
@@ -191,29 +190,6 @@ class Files:
         return branches
 
 
-def rest_of(image, places):
-    """An image with 0 at each of some words."""
-    rest = bytearray(image)
-    for place in places:
-        rest[place : place + 4] = bytes(4)
-    return rest
-
-
 def format_1(given):
     """A machine text in format 1, which has no vector lengths."""
     return re.sub(rb"^sve_vl .*\n", b"", given.replace(b"armcaps 2\n", b"armcaps 1\n", 1), flags=re.MULTILINE)
-
-
-class Label:
-    """An entry of the table of jump labels, its places counted from the image's first byte."""
-
-    def __init__(self, code, target, key, branch):
-        self.code, self.target, self.key, self.branch = code, target, key, branch
-
-    @staticmethod
-    def of(image, place):
-        code, target, key = JUMP.unpack_from(image, place)
-        return Label(place + code, place + 4 + target, place + 8 + (key & ~3), bool(key & 1))
-
-    def is_on(self, image):
-        return int.from_bytes(image[self.key : self.key + 4], "little", signed=True) > 0

@@ -7,7 +7,7 @@ import tempfile
 
 from armcaps_tools import machine
 
-from . import compare, qemu
+from . import compare, labels, qemu
 
 TOP = pathlib.Path(__file__).resolve().parent.parent.parent
 CORES = 4
@@ -73,10 +73,28 @@ class Trial:
         found |= {"numbers compared": count, "hwcaps": compare.hwcaps(self.program, self.text, original.hwcaps)}
         found |= {"reads": reads, "reads compared": places, "sites": sites.compared, "sites changed": sites.changed}
         found |= {"sites freed": sites.freed, "callbacks": dict(sites.callbacks), "strange": sites.strange}
+        found |= self.labels(original.memory, sites.strange)
         found |= self.booted(original)
         found |= {"warned": self.warned()} if is_control else {}
         self.keep(RESULT, json.dumps(found, indent=1) + "\n")
         return found
+
+    def labels(self, memory, strange):
+        """`jump` on the kernel's memory, whose keys are as the kernel left them: each word is as the kernel made it."""
+        begin, count = self.kernel.jump_table()
+        text = self.text.removesuffix(b"end\n") + b"image %d\n" % len(memory)
+        command = [self.program, "jump", f"{begin:#x}", str(count)]
+        out = subprocess.run(command, input=text + memory, stdout=subprocess.PIPE, check=True).stdout
+        entries = labels.of_table(memory, begin, count)
+        places = {entry.code: entry for entry in entries}
+        kept = {code for code in places if not compare.is_freed(self.kernel, code)}
+        if labels.rest_of(out, places) != labels.rest_of(memory, places):
+            strange.append("jump on the memory: bytes outside code places changed")
+        differ = sorted(code for code in kept if out[code : code + 4] != memory[code : code + 4])
+        strange += [f"jump on the memory: the word at {code:#x} is another one" for code in differ]
+        on = {entry.key for entry in entries if entry.is_on(memory)}
+        taken = sum(places[code].is_on(memory) != places[code].branch for code in kept)
+        return {"labels": len(kept), "label keys on": len(on), "labels taken": taken, "labels that differ": len(differ)}
 
     def booted(self, original):
         """What came of the image that is to boot."""

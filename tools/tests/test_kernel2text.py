@@ -24,13 +24,13 @@ def run(*command, given=None):
     return subprocess.run([str(part) for part in command], input=given, capture_output=True, check=False, cwd=TOP)
 
 
-def vmlinux(image, symbols, table, sizes={}):
+def vmlinux(image, symbols, table, sizes=None):
     """An ELF64 file with a section for the image before its table, one for the table, and one of no bytes behind."""
     base, begin = symbols["_text"], table - symbols["_text"]
     names = b"\0.text\0.altinstructions\0.bss\0.symtab\0.strtab\0.shstrtab\0"
     strings, entries = b"\0", b"\0" * 24
     for name, address in symbols.items():
-        entries += struct.pack("<IBBHQQ", len(strings), 0, 0, 1, address, sizes.get(name, 0))
+        entries += struct.pack("<IBBHQQ", len(strings), 0, 0, 1, address, (sizes or {}).get(name, 0))
         strings += name.encode() + b"\0"
     parts = [image, entries, strings, names]
     places = [64 + sum(len(part) for part in parts[:index]) for index in range(5)]
