@@ -186,25 +186,6 @@ fn demo_lines(alloc: Global, seed: u32, cores: u32, counts: &Counts) -> Result<S
     Ok(text)
 }
 
-// What is written of a machine that was brought up and its image.
-fn demo_text(
-    alloc: Global,
-    seed: u32,
-    cores: u32,
-    boot: &Boot,
-    names: &Names,
-    image: &[u8],
-    layout: Layout,
-) -> Result<String, AllocError>
-    requires finalised { boot.now.final ≡ true }
-    requires countable { IsCountable (features_of boot.now names.now) image.now layout }
-    ensures { IfOk result (λ text. string_bytes text
-        ≡ demo_lines seed cores (counts_of (findings_of boot.now) (features_of boot.now names.now) image.now layout)) }
-{
-    let counts = counts_of(alloc, boot, names, image, layout)?;
-    demo_lines(alloc, seed, cores, &counts)
-}
-
 /// Makes a machine with so many cores and its image from a seed, brings the machine up and leaves it in `machines`,
 /// patches the image, and makes what is written of both.
 pub fn demo(
@@ -225,7 +206,10 @@ pub fn demo(
     generated_machines_are_sound();
     generated_images_are_not_refused();
     let names = bring(alloc, machine, machines)?;
-    match demo_text(alloc, seed, cores, only(machines), &names, &image, layout) {
+    let Ok(counts) = counts_of(alloc, only(machines), &names, &image, layout) else {
+        return Err(Ending::Memory);
+    };
+    match demo_lines(alloc, seed, cores, &counts) {
         Ok(text) => Ok(text),
         Err(_) => Err(Ending::Memory),
     }

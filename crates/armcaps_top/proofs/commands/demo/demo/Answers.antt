@@ -1,4 +1,4 @@
-use Rattle.std.proofs.Common.{◌≡◌, Ok, string_bytes, subst, rules, ◌∙◌}
+use Rattle.std.proofs.Common.{◌≡◌, Ok, ap, string_bytes, subst, rules, ◌∙◌}
 use Rattle.armcaps_alt.specs.Names.{NameLists}
 use Rattle.armcaps_boot.specs.Findings.{findings_of}
 use Rattle.armcaps_patch.specs.Features.{features_of}
@@ -13,8 +13,8 @@ use Rattle.armcaps_top.proofs.GeneratedSites.{generated_apart}
 use Rattle.armcaps_top.proofs.Performing.{came, only_through}
 use Rattle.armcaps_top.proofs.commands.demo.demo.Goals as goal
 
-pub demo_text-requires-clause-countable : goal.demo_text-requires-clause-countable
-demo_text-requires-clause-countable c = record {
+pub counts_of-requires-clause-countable : goal.counts_of-requires-clause-countable
+counts_of-requires-clause-countable c = record {
   size = search rules;
   table = search rules;
   accepted = search rules;
@@ -22,14 +22,15 @@ demo_text-requires-clause-countable c = record {
       c.in-Ok.ensures.reading (c.deref.ensures.value ∙ c.in-Ok.ensures.image);
 }
 
-pub returns-in-Ok-demo_text : goal.returns-in-Ok-demo_text
-returns-in-Ok-demo_text c =
+pub returns-in-Ok-demo_lines : goal.returns-in-Ok-demo_lines
+returns-in-Ok-demo_lines c =
     let reading = reading_of c.in-Ok.machine in
     let found : Document = record { reading = reading; image = c.deref.result.now } in
-    let text = string_bytes c.in-Ok-demo_text.text in
+    let text = string_bytes c.in-Ok-demo_lines.text in
     let machines = c.bring.new.machines.items in
+    let made = c.in-Ok-demo_lines.ensures ∙ ap (demo_lines c.args.seed c.args.cores) c.in-Ok-counts_of.ensures in
     let lines = subst (λ (names : NameLists). text ≡ demo_lines c.args.seed c.args.cores
-    (counts_of (findings_of c.only.result.now) (features_of c.only.result.now names) c.deref.result.now reading.layout)) c.in_ok-names.ensures.names c.in-Ok-demo_text.ensures in
+    (counts_of (findings_of c.only.result.now) (features_of c.only.result.now names) c.deref.result.now reading.layout)) c.in_ok-names.ensures.names made in
     let through = only_through c.only.result.now c.in_ok-names.ensures.up c.requires.none c.only.ensures in
     subst (λ (one : Document). Comes (of_document (Demo c.args.seed c.args.cores) (Ok one)) machines (Ok text))
     (document_made c.args.seed c.args.cores reading c.deref.result.now c.in-Ok.ensures.reading (c.deref.ensures.value ∙ c.in-Ok.ensures.image))
