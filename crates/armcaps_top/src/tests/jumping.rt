@@ -153,18 +153,24 @@ const NO_FORMS: &str =
     jump 512 1g;jump 4294967808 1;jump 512 4294967297;jump 18446744073709552128 1;jump 18446744073709551615 0;\
     jumps 512 1;Jump 512 1";
 
-// Compares an answer of a row: a command's status, and the words that change, or the line on the error stream.
+// Compares an answer of a row in a format: a command's status, and the words that change, or the line on the error
+// stream.
 fn label_holds(
     rt: &impl Abort,
     alloc: Global,
-    name: &str,
+    row: (&str, u8),
     given: (&str, &[u8]),
     answer: &str,
 ) -> Result<(), Fail> {
+    let (name, format) = row;
     let (lines, image) = given;
     let (head, text) = answer.split_once('\n').ok_or("no line")?;
     let (status, line) = head.split_once(' ').ok_or("no words")?;
-    let ran = run_on(alloc, line, &document(alloc, lines, image)?)?;
+    let mut input = document(alloc, lines, image)?;
+    if let Some(byte) = input.get_mut(8) {
+        *byte = format;
+    }
+    let ran = run_on(alloc, line, &input)?;
     if status == "0" {
         let mut patched = image.to_vec(alloc)?;
         put(&mut patched, text)?;
@@ -186,7 +192,9 @@ fn labels_hold(rt: &impl Abort, alloc: Global, row: &str) -> Result<(), Fail> {
     let mut image = Vec::from_elem(alloc, 0_u8, length.parse()?)?;
     put(&mut image, words)?;
     for answer in parts {
-        label_holds(rt, alloc, name, (&lines, &image), answer)?;
+        for format in [b'1', b'2'] {
+            label_holds(rt, alloc, (name, format), (&lines, &image), answer)?;
+        }
     }
     Ok(())
 }
