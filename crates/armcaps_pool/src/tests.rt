@@ -239,12 +239,14 @@ fn worked_image(rt: HostRuntime) -> Result<(), Fail> {
     Ok(())
 }
 
-// BL in place of B has the right target and another class bit; the first entry's word is not the one that two cover.
+// BL and B.EQ have the target of the B that is right, and other bits or another class; the B that was not moved, the
+// first entry's word where two cover it, another register, another call, and a callback that keeps its word.
 #[test]
 fn other_words(rt: HostRuntime) -> Result<(), Fail> {
     let alloc = rt.alloc();
     for (at, other, place) in [
         (84usize, 0x97ff_ffebu32, 87u64),
+        (84, 0x54ff_fd60, 84),
         (84, 0x17ff_ffe2, 84),
         (88, 0x1400_0001, 88),
         (100, 0xf2b0_8884, 100),
