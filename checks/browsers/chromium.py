@@ -4,6 +4,7 @@ import base64
 import itertools
 import json
 import os
+import pathlib
 import select
 import subprocess
 import tempfile
@@ -36,6 +37,9 @@ class Chromium:
         self.session = self.call("Target.attachToTarget", targetId=target, flatten=True)["sessionId"]
         for domain in ("Page", "Runtime", "DOM"):
             self.call(f"{domain}.enable")
+        self.saved = pathlib.Path(self.folder.name) / "saved"
+        self.saved.mkdir()
+        self.call("Browser.setDownloadBehavior", behavior="allow", downloadPath=str(self.saved))
 
     def message(self, seconds):
         """The next message of the browser."""

@@ -5,13 +5,15 @@ from armcaps_tools import fields, profile, text
 # everything that is compared, read from the elements alone
 READ = """(() => {
   const all = (selector, of = document) => [...of.querySelectorAll(selector)];
-  const head = all("#matrix thead th[data-cores]").map((cell) => cell.dataset.cores.split(" ").map(Number));
+  const numbers = (text) => text.split(" ").map(Number);
+  const head = all("#matrix thead th[data-cores]").map((cell) => numbers(cell.dataset.cores));
+  const held = all("#holders li").map((item) => numbers(item.dataset.holders));
   const rows = all("#matrix tbody tr").map((row) =>
     [row.dataset.field, all("td.value", row).map((cell) => Number(cell.textContent))]);
   const tags = all("#capabilities ul").map((list) => all("li:not(.lost)", list).map((item) => item.textContent));
   return {
-    cores: all("#cores .card").map(({ dataset }) => [dataset.cores.split(" ").map(Number), dataset.state, dataset.cause]),
-    head, rows, tags, refusal: document.querySelector("#refusal strong")?.textContent ?? "",
+    cores: all("#cores .card").map(({ dataset: { cores, state, cause } }) => [numbers(cores), state, cause]),
+    head, rows, tags, held, refusal: document.querySelector("#refusal strong")?.textContent ?? "",
     marked: document.querySelector("#gutter b")?.textContent ?? null,
     steps: all("#lanes [data-step]").map(({ dataset }) => `${dataset.step} ${dataset.core} ${dataset.reply}`),
     report: document.getElementById("report").textContent, trace: document.getElementById("trace").textContent,
@@ -28,10 +30,11 @@ def same(what, drawn, said):
         raise Differs(f"{what}: drawn is {drawn!r}, and the program says {said!r}")
 
 
-def compare_states(drawn, report):
-    """The state and cause of each core, as its card has them."""
+def compare_states(drawn, report, panics):
+    """The state and cause of each core, as its card has them; `panics` are those of cores that stop the machine."""
     states = {core: f"{state} {cause}".strip() for cores, state, cause in drawn["cores"] for core in cores}
-    same("states", [states.get(core) for core in range(len(report.states))], report.states)
+    told = [panics.get(core, state) for core, state in enumerate(report.states)]
+    same("states", [states.get(core) for core in range(len(report.states))], told)
 
 
 def compare_fields(drawn, machine, report):
@@ -47,24 +50,37 @@ def compare_fields(drawn, machine, report):
         same("users", users, field.value(report.user[field.register]))
 
 
-def compare(drawn, given, answer, trace):
-    """All that a page shows of a document, beside what the program gave for it."""
-    if answer.returncode == 0:
-        machine, report = text.machine(given), text.report(answer.stdout)
-        same("refusal", drawn["refusal"], "")
-        same("report", drawn["report"].encode(), answer.stdout)
-        same("trace", drawn["trace"].encode(), trace.stdout)
-        compare_states(drawn, report)
-        compare_fields(drawn, machine, report)
-        lengths = [list(map(str, report.lengths))] if report.lengths or len(drawn["tags"]) == 3 else []
-        same("tags", drawn["tags"], [report.capabilities, report.flags, *lengths])
-        steps = [line.split(" ", 2)[2] for line in trace.stdout.decode().splitlines() if line.startswith("step ")]
-        same("steps", drawn["steps"], [step for step in steps if not step.startswith("finalise")])
-    elif answer.returncode == 7:
-        _, core, cause = answer.stderr.decode().strip().split(": ", 3)[1:]
-        panics = {core: cause for cores, state, cause in drawn["cores"] if state == "panic" for core in cores}
-        same("panic", panics.get(int(core.split(" ")[1])), cause)
-    else:
-        same("refusal", drawn["refusal"], answer.stderr.decode().strip())
-        words = answer.stderr.split()
-        same("marked line", drawn["marked"], words[2].rstrip(b":").decode() if words[1] == b"line" else None)
+def compare_holders(drawn, machine, report):
+    """Which cores hold fields where they are: those with the system's value, where admitted cores have others too."""
+    states = ("boot", "early", "late")
+    admitted = [core for core, state in enumerate(report.states) if state.split(" ")[0] in states]
+    wanted = set()
+    for field in profile.fields():
+        values = {core: field.value(machine.cores[core].get(field.register, 0)) for core in admitted}
+        system = field.value(report.system[field.register])
+        forced = report.notes.get(fields.name_of(field)) == "forced"
+        if len(set(values.values())) > 1 and field.rule != "Exact" and not forced:
+            wanted.add(tuple(core for core, value in values.items() if value == system))
+    same("holders", {tuple(sorted(cores)) for cores in drawn["held"]}, wanted - {()})
+
+
+def compare_machine(drawn, given, answer, trace, panics):
+    """All that a page shows of a machine, beside what the program gave for it."""
+    machine, report = text.machine(given), text.report(answer.stdout)
+    same("refusal", drawn["refusal"], "")
+    same("report", drawn["report"].encode(), answer.stdout)
+    same("trace", drawn["trace"].encode(), trace.stdout)
+    compare_states(drawn, report, panics)
+    compare_fields(drawn, machine, report)
+    compare_holders(drawn, machine, report)
+    lengths = [list(map(str, report.lengths))] if report.lengths or len(drawn["tags"]) == 3 else []
+    same("tags", drawn["tags"], [report.capabilities, report.flags, *lengths])
+    steps = [line.split(" ", 2)[2] for line in trace.stdout.decode().splitlines() if line.startswith("step ")]
+    same("steps", drawn["steps"], [step for step in steps if not step.startswith("finalise")])
+
+
+def compare_refusal(drawn, answer):
+    """The line of a refusal, and the mark of the text's line."""
+    same("refusal", drawn["refusal"], answer.stderr.decode().strip())
+    words = answer.stderr.split()
+    same("marked line", drawn["marked"], words[2].rstrip(b":").decode() if words[1] == b"line" else None)

@@ -18,6 +18,7 @@ KEYS = {"Tab": "\ue004", "ArrowLeft": "\ue012", "ArrowUp": "\ue013", "ArrowRight
 PREFERENCES = """user_pref("browser.shell.checkDefaultBrowser", false);
 user_pref("datareporting.policy.dataSubmissionEnabled", false);
 user_pref("app.update.enabled", false);
+user_pref("browser.download.folderList", 2);
 """
 
 
@@ -28,7 +29,10 @@ class Firefox:
 
     def __init__(self):
         self.folder = tempfile.TemporaryDirectory()
-        (pathlib.Path(self.folder.name) / "user.js").write_text(PREFERENCES, encoding="utf-8")
+        self.saved = pathlib.Path(self.folder.name) / "saved"
+        self.saved.mkdir()
+        preferences = PREFERENCES + f'user_pref("browser.download.dir", "{self.saved}");\n'
+        (pathlib.Path(self.folder.name) / "user.js").write_text(preferences, encoding="utf-8")
         words = [PROGRAM, "--headless", "--no-remote", "--profile", self.folder.name, "--remote-debugging-port", "0"]
         self.said = pathlib.Path(self.folder.name) / "said"
         with open(self.said, "wb") as said:
@@ -72,7 +76,8 @@ class Firefox:
 
     def choose(self, selector, path):
         """Chooses a file in an input of files."""
-        found = self.call("browsingContext.locateNodes", context=self.context, locator={"type": "css", "value": selector})
+        locator = {"type": "css", "value": selector}
+        found = self.call("browsingContext.locateNodes", context=self.context, locator=locator)
         node = {"sharedId": found["nodes"][0]["sharedId"]}
         self.call("input.setFiles", context=self.context, element=node, files=[str(path)])
 

@@ -22,7 +22,8 @@ class Inputs:
         """All of them, each begun from a good text."""
         cases = [
             self.dump, self.carriage_returns, self.empty, self.longest, self.too_long, self.binary, self.kernel,
-            self.other_length, self.no_text, self.edit, self.command_line, self.memory, self.stopped, self.link,
+            self.other_length, self.no_text, self.dropped, self.edit, self.command_line, self.memory, self.stopped,
+            self.link,
         ]
         with tempfile.TemporaryDirectory() as folder:
             self.folder = pathlib.Path(folder)
@@ -113,6 +114,17 @@ class Inputs:
         self.page.choose(self.file(LATE.read_bytes().replace(b"\n# neo", b"\n# \xff\xfe", 1)))
         self.says("summary", "3 of 4 cores")
 
+    def dropped(self):
+        """A file that is dropped on the page, and the text before, had back."""
+        self.page.put(b"armcaps 1\n# a text of one's own\nend\n")
+        name = "[...DATA.examples].find((one) => one.name === 'hotplug')"
+        drop = f"const data = new DataTransfer(); data.items.add(new File([{name}.text], 'hotplug.txt'));"
+        fire = "document.dispatchEvent(new DragEvent('drop', { dataTransfer: data, bubbles: true }))"
+        self.page.act(f"(() => {{ {drop} {fire}; }})()")
+        self.says("summary", "3 of 4 cores admitted, 1 parked")
+        self.page.act("document.getElementById('back').click()")
+        self.says("refusal", "line 3")
+
     def edit(self):
         """A fault while typing: what is drawn is kept, in grey, until the text is right again."""
         with self.typed(".replace('boot 0', 'boot x')"):
@@ -148,8 +160,10 @@ class Inputs:
             raise drawn.Differs(f"want of memory: {err!r}")
 
     def stopped(self):
-        """Stop during a long run."""
-        self.page.ask("void engine.run('demo 1 64', []).then((answer) => { window.ended = answer.err; })")
+        """Stop during a second of runs, one after the other."""
+        runs = "Array.from({ length: 60 }, () => engine.run('demo 1 64', []))"
+        self.page.ask("void (window.ended = undefined)")
+        self.page.ask(f"void {runs}.at(-1).then((answer) => {{ window.ended = answer.err; }})")
         self.page.ask("void document.getElementById('stop').removeAttribute('disabled')")
         self.page.ask("void document.getElementById('stop').click()")
         self.page.wait("window.ended !== undefined")

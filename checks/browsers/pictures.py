@@ -20,8 +20,8 @@ def quiet_rows_folded(page):
 
 
 def board():
-    """Two Neoverse N1, a Cortex-A72 that lowers fields, a Cortex-A53 that comes late and is parked, and a core that goes
-    and comes back."""
+    """Two Neoverse N1, of which one goes and comes back, a Cortex-A72 that lowers fields, and a Cortex-A53 that comes
+    late and is parked."""
     cores = {name: text.machine((TOP / f"examples/{name}.txt").read_bytes()).cores for name in (SHOWN, "big-little")}
     n1, a53, a72 = cores[SHOWN][0], cores[SHOWN][2], cores["big-little"][4]
     lines = ["armcaps 2"]

@@ -11,6 +11,7 @@ import time
 from armcaps_tools import profile, text
 
 from . import documents, drawn, images
+from .page import Page
 
 TOP = documents.TOP
 
@@ -18,8 +19,8 @@ TOP = documents.TOP
 class Trials:
     """All trials of one page, beside the program."""
 
-    def __init__(self, page, program):
-        self.page, self.program = page, program
+    def __init__(self, page, program, path):
+        self.page, self.program, self.path = page, program, path
 
     def run(self, words, data):
         return subprocess.run([self.program, *words.split()], input=data, capture_output=True, check=False)
@@ -37,8 +38,17 @@ class Trials:
         for core, register in ((0, "id_aa64isar0_el1"), (1, "ctr_el0"), (2, "id_aa64pfr0_el1")):
             self.same_run(f"mrs {core} {mrs_word(register)}", data)
         self.page.put(data)
-        drawn.compare(self.page.drawn(), data, report, trace)
-        return report.returncode
+        status, panics = report.returncode, {}
+        while report.returncode == 7:
+            core, cause = re.match(r"armcaps: panic: core (\d+): (.*)\n", report.stderr.decode()).groups()
+            panics[int(core)] = f"panic {cause}"
+            rest = without(data, panics)
+            report, trace = self.run("report", rest), self.run("trace", rest)
+        if report.returncode == 0:
+            drawn.compare_machine(self.page.drawn(), data, report, trace, panics)
+        else:
+            drawn.compare_refusal(self.page.drawn(), report)
+        return status
 
     def examples(self):
         """Every example."""
@@ -85,8 +95,7 @@ class Trials:
             self.page.ask("void document.getElementById('patch').click()")
             self.page.wait("document.body.dataset.patched === String(state.turn)")
             seconds = time.monotonic() - begin
-        digest = "crypto.subtle.digest('SHA-256', state.patched).then((sum) => [...new Uint8Array(sum)])"
-        drawn.same("patched image", bytes(self.page.ask(digest)), hashlib.sha256(program.stdout).digest())
+        drawn.same("patched image", self.patched(self.page), hashlib.sha256(program.stdout).digest())
         self.counted(given, image, program.stdout)
         return f"an image of {megabytes} MB patched in {seconds:.2f} s, with the program's bytes"
 
@@ -99,6 +108,45 @@ class Trials:
         changed = sum(image[at : at + 4] != patched[at : at + 4] for at in range(0, len(image), 4))
         entries = int(re.search(rb"^table \d+ (\d+)$", given, re.MULTILINE)[1])
         drawn.same("entries and changed words", [rows[-1][1], rows[-1][4]], [entries, changed])
+
+    def saves(self):
+        """The text and the report, as they are saved."""
+        path = TOP / "examples/hotplug.txt"
+        self.page.put(path.read_bytes())
+        for button, name, wanted in (
+            ("save-text", "board.txt", path.read_bytes()),
+            ("save-report", "board.report", path.with_suffix(".report").read_bytes()),
+        ):
+            self.page.ask(f"void document.getElementById('{button}').click()")
+            saved = self.page.browser.saved / name
+            for _ in range(200):
+                if saved.is_file() and saved.stat().st_size == len(wanted):
+                    break
+                time.sleep(0.05)
+            drawn.same(name, saved.read_bytes() if saved.is_file() else None, wanted)
+        return "the text and the report are saved as they are"
+
+    def board(self):
+        """A page that tools/page wrote, with a text and its image in it."""
+        given, image = images.document(1 << 20, 500, 2)
+        program = self.run("patch", given + image)
+        with tempfile.TemporaryDirectory() as folder:
+            board, page = pathlib.Path(folder) / "board.txt", pathlib.Path(folder) / "board.html"
+            board.write_bytes(given + image)
+            tool = [TOP / "tools/page", "--page", self.path, board]
+            page.write_bytes(subprocess.run(tool, capture_output=True, check=True).stdout)
+            opened = Page(self.page.browser, page)
+            drawn.same("title", opened.ask("document.title"), "board.txt: armcaps")
+            drawn.same("patched image", self.patched(opened), hashlib.sha256(program.stdout).digest())
+        Page(self.page.browser, self.path)
+        return "a page with a text and an image of 1 MiB in it, by tools/page, patched"
+
+    def patched(self, page):
+        """The sum of the image that the page's button patches."""
+        page.ask("void document.getElementById('patch').click()")
+        page.wait("document.body.dataset.patched === String(state.turn)")
+        digest = "crypto.subtle.digest('SHA-256', state.patched).then((sum) => [...new Uint8Array(sum)])"
+        return bytes(page.ask(digest))
 
     def figures(self):
         """Times: the page opened and drawn, a warm report, and one of 512 cores."""
@@ -120,8 +168,8 @@ class Trials:
     def names(self):
         """A name for all that can be used."""
         names = self.page.ask(
-            "[...document.querySelectorAll('button, input, select, textarea')].filter((one) => !(one.textContent.trim() "
-            "|| one.getAttribute('aria-label') || one.labels?.length)).map((one) => one.id)"
+            "[...document.querySelectorAll('button, input, select, textarea')].filter((one) => !one.textContent.trim() "
+            "&& !one.getAttribute('aria-label') && !one.labels?.length).map((one) => one.id)"
         )
         drawn.same("elements without a name", names, [])
         return "every button and field has a name"
@@ -136,6 +184,13 @@ class Trials:
         drawn.same("focus", label, "id_aa64pfr0.el2, cores 0-3: 0")
         drawn.same("detail", self.page.ask("document.querySelector('#detail h3').textContent"), "id_aa64pfr0.el2")
         return "the matrix is gone through by arrow keys, and what is focused is explained"
+
+
+def without(data, cores):
+    """A text without the steps of some cores."""
+    steps = re.compile(rb"(?:check|local|store|online|offline) (\d+)")
+    found = ((line, steps.fullmatch(line)) for line in data.split(b"\n"))
+    return b"\n".join(line for line, step in found if not step or int(step[1]) not in cores)
 
 
 def encoded(data):

@@ -136,6 +136,16 @@ function nextCell(table, event) {
 /** The cores that hold a field where it is, if some do and others do not. */
 const holdersOf = (row, kinds) => kinds.filter((_, at) => row.cells[at] === "limits").flatMap((kind) => kind.numbers);
 
+/** Who holds fields where they are: each set of cores that does, with those fields, the one with most fields first. */
+function heldBy(rows, kinds) {
+  const held = new Map();
+  for (const row of rows) {
+    const cores = holdersOf(row, kinds), key = cores.join(" ");
+    if (cores.length) held.set(key, { cores, names: [...(held.get(key)?.names ?? []), row.name] });
+  }
+  return [...held.values()].sort((one, other) => other.names.length - one.names.length);
+}
+
 /** What is told of a field: what it is, each value in words, who holds it, and what asks for it. */
 function fieldInWords(row, kinds) {
   const { field } = row, register = registerByName.get(field.register), holders = holdersOf(row, kinds);

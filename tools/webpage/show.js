@@ -1,9 +1,9 @@
 // From the text in the editor to what the page shows of it: the program is run, and what it wrote is drawn.
 
-/** What is shown: the document, a command line to try, and what the program wrote. */
+/** What is shown: the document, a command line to try, and what the program wrote of the text that both make. */
 const state = {
   loaded: null, image: null, imageName: "", commandLine: null, isEdit: false, before: null,
-  machine: null, report: null, kinds: [], rows: [], patched: null, turn: 0,
+  machine: null, bytes: null, report: null, kinds: [], rows: [], patched: null, turn: 0,
 };
 const MOST_KINDS = 64, MOST_PANICS = 64;
 
@@ -53,7 +53,7 @@ async function showMachine(given, bytes, answer, panics) {
   const trace = (await textOf("trace", bytes)) ?? "", initial = await textOf("report", withoutCores(bytes, all));
   const lost = await lostAgainst(kinds, given, report);
   if (turn !== state.turn) return;
-  Object.assign(state, { report, kinds });
+  Object.assign(state, { report, kinds, bytes });
   fill("refusal");
   $("refusal").hidden = true;
   $("text").removeAttribute("aria-invalid");
@@ -118,7 +118,7 @@ async function lostAgainst(kinds, bytes, report) {
 }
 
 const PARTS = [
-  "cores", "lanes", "events", "matrix", "detail", "capabilities", "folded", "report", "trace", "mrs-answer",
+  "cores", "lanes", "events", "matrix", "detail", "holders", "capabilities", "folded", "report", "trace", "mrs-answer",
 ];
 
 /** A refused text: its line is marked, with its kind and what to do. What an edited text had is kept, in grey. */
@@ -165,6 +165,7 @@ function drawFields() {
   const isFound = (row) => `${row.name} ${row.field.what}`.toLowerCase().includes(wanted);
   state.rows = rows.filter((row) => (all || !row.isQuiet) && isFound(row));
   fill("detail", element("p", {}, "Point at a value, or go to it by the arrow keys, to see what it means."));
+  drawHolders(rows);
   const folded = rows.length - state.rows.length;
   $("folded").textContent = folded ? `${folded} fields are folded away.` : "";
   if (state.rows.length) return drawMatrix(state.rows, state.kinds, explainField);
@@ -172,29 +173,47 @@ function drawFields() {
   fill("matrix", element("p", {}, none));
 }
 
+/** What is known of a field, and a button that leaves out those who hold it. */
 function explainField(row) {
-  const holders = holdersOf(row, state.kinds), canGo = holders.length > 0 && !holders.includes(state.machine.boot);
-  const words = `What would be won without ${coresInWords(holders)}?`;
-  fill("detail", fieldInWords(row, state.kinds),
-    canGo ? element("button", { type: "button", onclick: () => whatIf(row, holders) }, words) : "");
+  const holders = holdersOf(row, state.kinds);
+  fill("detail", fieldInWords(row, state.kinds), holders.length ? whatIfButton(holders) : "");
 }
 
-/** Runs the program again without some cores, and says what the system has more. */
-async function whatIf(row, cores) {
-  const output = await textOf("report", withoutCores(textBytes(), cores));
-  if (output === null) return fill("detail", element("p", {}, `Without ${coresInWords(cores)} there is no machine.`));
+/** Who holds which fields where they are. */
+function drawHolders(rows) {
+  fill("holders", heldBy(rows, state.kinds).map(({ cores, names }) => {
+    const few = names.slice(0, 12).join(", "), more = names.length > 12 ? ` and ${names.length - 12} more` : "";
+    const words = `${coresInWords(cores)} ${cores.length > 1 ? "hold" : "holds"} ${few}${more}. `.replace("c", "C");
+    return element("li", { "data-holders": cores.join(" ") }, words, whatIfButton(cores));
+  }));
+}
+
+/** A button that runs the program again without some cores, and says below it what would be won. */
+function whatIfButton(cores) {
+  if (cores.includes(state.machine.boot)) return element("small", {}, "The boot core cannot stay away.");
+  const told = element("p", { role: "status" });
+  const ask = async () => { told.textContent = await wonWithout(cores); };
+  const words = `What would be won without ${coresInWords(cores)}?`;
+  return element("span", {}, element("button", { type: "button", onclick: ask }, words), told);
+}
+
+/** What the system has more without some cores. */
+async function wonWithout(cores) {
+  const output = await textOf("report", withoutCores(state.bytes, cores));
+  if (output === null) return `Without ${coresInWords(cores)} there is no machine.`;
   const other = readReport(output), now = state.report;
-  const value = fieldValue(row.field, other.system[row.field.register] ?? 0n);
   const won = ["capabilities", "flags"].flatMap((part) => other[part].filter((name) => !now[part].includes(name)));
-  const without = `Without ${coresInWords(cores)}, ${row.name} would be ${value} in place of ${row.system}.`;
-  fill("detail", element("p", {}, `${without} Won: ${won.join(", ") || "no capability and no flag"}.`));
+  const value = (report, field) => fieldValue(field, report.system[field.register] ?? 0n);
+  const fields = DATA.fields.filter((field) => value(other, field) !== value(now, field));
+  const changes = fields.map((field) => `${nameOf(field)} ${value(other, field)} in place of ${value(now, field)}`);
+  return `Won: ${won.join(", ") || "no capability and no flag"}. Fields: ${changes.join(", ") || "the same"}.`;
 }
 
 /** What a program reads by an MRS, and the fields of the word that are not 0. */
 async function readUser() {
   const word = $("mrs-word").value.trim(), core = $("mrs-core").value.trim(), register = $("mrs-register").value;
   if (!state.report || !word) return fill("mrs-answer");
-  const answer = await ask(`mrs ${core} ${word}`, textBytes());
+  const answer = await ask(`mrs ${core} ${word}`, state.bytes);
   if (answer.stopped) return;
   if (answer.status !== 0) return fill("mrs-answer", answer.err);
   const told = decoder.decode(answer.out).trim(), value = numberOf(told.split(" ")[1]) ?? 0n;

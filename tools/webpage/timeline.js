@@ -2,10 +2,12 @@
 const LANE = { left: 84, row: 26, top: 14 };
 const MOST_STEPS = 6000, MOST_EVENTS = 500;
 
-/** Each step with what its store lowered: the fields that changed, with their values before and after. */
+/** Each step with the fields that it changed, their values before and after, and whether its core is back by it. */
 function stepsWithChanges(steps, initial) {
-  const now = { ...initial };
+  const now = { ...initial }, gone = new Set();
   return steps.map((step) => {
+    if (step.word === "offline") gone.add(step.core);
+    const isBack = step.word === "store" && step.reply === "done" && gone.has(step.core);
     const fields = step.changed.flatMap(({ register, word }) => {
       const before = now[register];
       now[register] = word;
@@ -13,7 +15,7 @@ function stepsWithChanges(steps, initial) {
         .map((field) => ({ field, from: fieldValue(field, before), to: fieldValue(field, word) }))
         .filter(({ from, to }) => from !== to);
     });
-    return { ...step, fields };
+    return { ...step, fields, isBack };
   });
 }
 
@@ -22,7 +24,8 @@ function stepInWords(step, index, most) {
   const core = step.core === null ? "" : ` ${step.core}`, { fields } = step;
   const changes = fields.slice(0, most).map(({ field, from, to }) => `; ${nameOf(field)} ${from} to ${to}`);
   const more = fields.length > most ? `; ${fields.length - most} more fields` : "";
-  return `step ${index + 1}: ${step.word}${core} ${step.reply}${changes.join("")}${more}`;
+  const back = step.isBack ? "; the core is back" : "";
+  return `step ${index + 1}: ${step.word}${core} ${step.reply}${changes.join("")}${more}${back}`;
 }
 
 function timelineInWords(steps) {
@@ -35,7 +38,8 @@ function timelineInWords(steps) {
 }
 
 function drawTimeline(machine, steps) {
-  const told = steps.filter((step) => step.fields.length || step.reply.startsWith("parked") || step.word === "offline");
+  const isTold = (step) => step.fields.length || step.isBack || step.word === "offline" || /^parked/.test(step.reply);
+  const told = steps.filter(isTold);
   fill("events", told.slice(0, MOST_EVENTS).map((step) => element("li", {}, stepInWords(step, steps.indexOf(step), 6))),
     told.length > MOST_EVENTS ? element("li", {}, `${told.length - MOST_EVENTS} more, in the trace`) : "");
   if (steps.length <= MOST_STEPS) drawLanes(machine, steps);
@@ -68,7 +72,7 @@ function drawLanes(machine, steps) {
   fill("lanes", svg);
 }
 
-/** A cross where a core is parked, a triangle where a store changed a field, a ring where a core goes, else a dot. */
+/** A cross where a core is parked, a triangle where a store changed a field, rings where a core goes or is back. */
 function markOf(step, x, y, title) {
   const marked = { "data-step": step.word, "data-core": step.core, "data-reply": step.reply };
   if (step.reply.startsWith("parked")) {
@@ -80,7 +84,8 @@ function markOf(step, x, y, title) {
     const triangle = `M${x - 6} ${y - 5}L${x + 6} ${y - 5}L${x} ${y + 7}Z`;
     return element("path", { ...marked, class: "lowered", d: triangle }, title);
   }
-  return element("circle", { ...marked, cx: x, cy: y, r: 4, class: step.word === "offline" ? "ring" : "dot" }, title);
+  const kind = step.word === "offline" ? "ring" : step.isBack ? "back" : "dot";
+  return element("circle", { ...marked, cx: x, cy: y, r: kind === "back" ? 5 : 4, class: kind }, title);
 }
 
 /** The line of a core: on its way from its check to its store, up from its store on, gone once offline. */
