@@ -4,6 +4,7 @@ import dataclasses
 import re
 import struct
 
+from . import descriptions
 from .command import Refused
 
 ENTRY = struct.Struct("<iiHBB")
@@ -144,3 +145,18 @@ def of_image(image, known):
         if image.startswith(begin):
             raise Refused(f"--image {what}")
     return Kernel(image, {name: address - known["_text"] for name, address in known.items()})
+
+
+def names_of(caps, found, described):
+    """The name of each number, where the kernel has as many numbers as these, and describes none otherwise."""
+    count, slots = how_many(caps), found.how_many_numbers()
+    if count is not None and slots is not None and not count <= slots < count + SPARE:
+        raise Refused(f"--caps has {count} numbers, and this kernel {slots}: is --caps that of this build?")
+    names = numbers(caps)
+    ours = {name: number for number, name in names.items()}
+    for told, number in described.items():
+        name = descriptions.NAMES.get(told)
+        if ours.get(name, number) != number:  # a name that --caps does not have may be another release's
+            told = f"--caps has {name} as {ours[name]}, and this kernel {number}, {told!r}"
+            raise Refused(f"{told}: is --caps that of this build?")
+    return names

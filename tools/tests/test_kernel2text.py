@@ -201,7 +201,8 @@ class Files(Small):
             done = run(TOP / "tools/kernel2text", *words, given=TEXT.encode())
             with self.subTest(number=number):
                 self.assertEqual(done.returncode, status, done.stderr)
-                self.assertEqual(b"'LSE atomic instructions' in this kernel" in done.stderr, bool(status))
+                told = b"has HAS_LSE_ATOMICS as 35, and this kernel 83, 'LSE atomic instructions'"
+                self.assertEqual(told in done.stderr, bool(status))
 
     def test_a_file_above_the_limit(self):
         with open(self.folder / "kernel.img", "r+b") as file:
