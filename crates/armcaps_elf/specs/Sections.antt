@@ -1,7 +1,14 @@
 -- Loaded sections: what they hold, and what they share.
 use Rattle.std.specs.Prelude.{◌+◌, ◌-◌, ◌%◌, ◌^◌, ◌&&◌, ◌≤◌, ℕ, Bool, List, count_by, max, min, nat_le, nat_lt}
 use Rattle.std.specs.List.{fold, list_any}
+use Rattle.armcaps_elf.specs.declared.begin.Begin.{Begin}
+use Rattle.armcaps_elf.specs.declared.begin.Begin.TheVariants.{Address, Place}
 use Rattle.armcaps_elf.specs.declared.section.Section.{Section}
+
+-- where a section begins: its address, or its place in the file
+abbrev pub begin_of : Begin → Section → ℕ
+begin_of Address section = section.address
+begin_of Place section = section.place
 
 -- whether a section holds a number, as it begins at `begin`: at its address an address, at its place a place of the
 -- file

@@ -2,6 +2,7 @@
 //! with another flat image put back into it (System V ABI, "Object Files"; Linux, arch/arm64/kernel/vmlinux.lds.S).
 #![tactic(auto)]
 
+mod begin;
 mod bounds;
 mod checks;
 mod elf;

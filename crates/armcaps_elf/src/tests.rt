@@ -204,3 +204,34 @@ fn each_kind_at_its_edge(rt: HostRuntime) -> Result<(), Fail> {
     }
     Ok(())
 }
+
+#[test]
+fn a_section_without_bytes_has_zeros(rt: HostRuntime) -> Result<(), Fail> {
+    let mut file = small_file(rt.alloc())?;
+    let section = Section {
+        address: 0xffff_8000_8000_1000,
+        place: 0x2000,
+        size: 0x1000,
+    };
+    put_header(&mut file, 0x2040, 1, 8, 3, section);
+    put(&mut file, TABLE + 16, 8, 0xffff_8000_8000_2000);
+    let elf = Elf::read(rt.alloc(), &file)?;
+    assert_eq!(rt; elf.loaded().len(), 2);
+    assert!(rt; elf.covers(0xffc, 4) && !elf.covers(0x1000, 1) && elf.covers(0x2000, 12));
+    let flat = elf.flat(rt.alloc(), &file)?;
+    assert_eq!(rt; flat.as_slice().get(0x1001), Some(&0));
+    assert_eq!(rt; flat.as_slice().get(0x2001), Some(&0xf1));
+    Ok(())
+}
+
+#[test]
+fn the_longest_table(rt: HostRuntime) -> Result<(), Fail> {
+    let mut file = small_file(rt.alloc())?;
+    file.resize(12_591_436, 0)?;
+    put(&mut file, TABLE + 24, 8, 8512);
+    for (size, kind) in [(12_582_912, 0), (12_582_924, 9)] {
+        put(&mut file, TABLE + 32, 8, size);
+        assert_eq!(rt; kind_of(rt.alloc(), &file)?, kind, "{size}");
+    }
+    Ok(())
+}

@@ -1,9 +1,0 @@
-use Rattle.std.proofs.Common.{◌+◌, ◌<◌, ℕ, get_or}
-use Rattle.armcaps_elf.specs.declared.section.Section.{Section}
-use Rattle.armcaps_elf.specs.Sections.{Follows}
-use Rattle.armcaps_elf.proofs.overlaps.share_addresses.Given as goal
-
--- each section so far follows the one before it
-abbrev pub invariant-loop-index : goal.invariant-loop-index
-invariant-loop-index l = (k : ℕ) (d : Section) → k + 1 < l.index
-    → Follows (λ section. section.address) (get_or l.sections k d) (get_or l.sections (k + 1) d)
