@@ -5,8 +5,6 @@ mod buffer;
 mod growing_sink;
 mod outcome;
 mod slice_source;
-#[cfg(test)]
-mod tests;
 mod words;
 
 ghost use Rattle.std.specs.Prelude.{◌≡◌, ◌≢◌, ◌<◌, ◌≤◌, if◌then◌else◌, length};
