@@ -141,6 +141,30 @@ class Trials:
         Page(self.page.browser, self.path)
         return "a page with a text and an image of 1 MiB in it, by tools/page, patched"
 
+    def other_commands(self):
+        """An image with jump labels, and a vmlinux, each opened as a file and patched by its own command."""
+        given, image = images.document(1 << 20, 300, 3)
+        place, count = len(image) // 8 * 7, 200
+        labelled = images.with_jump_labels(image, place, count, 4)
+        table, entries = map(int, re.search(rb"^table (\d+) (\d+)$", given, re.MULTILINE).groups())
+        kernel = images.vmlinux(image, table, entries)
+        self.commanded(f"jump {place:#x} {count}", given + labelled)
+        self.commanded("elf", images.text_for(given, len(kernel)) + kernel)
+        return "an image with jump labels and a vmlinux, by jump and elf"
+
+    def commanded(self, words, data):
+        """A command of its own on a text with its image: the answer, beside the program's."""
+        program = self.run(words, data)
+        drawn.same(f"status of {words}", (program.returncode, program.stderr), (0, b""))
+        with tempfile.TemporaryDirectory() as folder:
+            path = pathlib.Path(folder) / "kernel.txt"
+            path.write_bytes(data)
+            self.page.choose(path)
+        command, _, numbers = words.partition(" ")
+        choice = f"document.getElementById('command').value = '{command}'"
+        self.page.ask(f"void ({choice}, document.getElementById('labels').value = '{numbers}')")
+        drawn.same(words, self.patched(self.page), hashlib.sha256(program.stdout).digest())
+
     def patched(self, page):
         """The sum of the image that the page's button patches."""
         page.ask("void document.getElementById('patch').click()")

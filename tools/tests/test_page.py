@@ -88,7 +88,8 @@ class Page(unittest.TestCase):
     def test_every_kind_has_a_remedy(self):
         data = self.make.data()
         self.assertEqual(sorted(data["kinds"]), list(range(1, 18)))
-        self.assertEqual(sorted(data["entries"]), list(range(1, 10)))
+        kinds = {command: len(found) for command, found in data["patching"].items()}
+        self.assertEqual(kinds, {"patch": 9, "elf": 12, "jump": 3})
         self.assertTrue(all(field["what"] for field in data["fields"]))
 
     def test_every_example_is_there_with_what_it_is(self):

@@ -94,43 +94,6 @@ async function takeImage(file) {
   show();
 }
 
-function drawImageNote() {
-  const wanted = state.machine?.image ?? 0, hasImage = state.image !== null;
-  $("image").hidden = wanted === 0 && !hasImage;
-  $("image-note").textContent = hasImage
-    ? `${state.imageName} has ${state.image.length} bytes; the text names ${wanted}.`
-    : `The text names an image of ${wanted} bytes: open that file to patch it. Nothing else on this page needs it.`;
-  $("patch").disabled = !hasImage || state.report === null;
-}
-
-function forgetPatch() {
-  state.patched = null;
-  $("save-image").disabled = true;
-  for (const id of ["patch-answer", "patched"]) fill(id);
-}
-
-async function patch() {
-  const turn = ++state.turn;
-  forgetPatch();
-  $("stop").disabled = false;
-  $("patch-answer").textContent = "Patching.";
-  const answer = await engine.run("patch", [textBytes(), state.image]);
-  if (turn !== state.turn) return;
-  $("stop").disabled = true;
-  const entry = answer.err.match(/patch: entry \d+: kind (\d+)/);
-  if (answer.status === 0) showPatched(answer.out);
-  else $("patch-answer").textContent = `${answer.err}${entry ? `. ${DATA.entries[entry[1]]}` : ""}`;
-  document.body.dataset.patched = String(turn);
-}
-
-function showPatched(patched) {
-  state.patched = patched;
-  $("save-image").disabled = false;
-  const changes = changesByName(state.machine, state.report, state.image, patched);
-  $("patch-answer").textContent = `${patched.length} bytes, ${changes.changed} words of four bytes changed.`;
-  drawChanges(changes);
-}
-
 function save(name, bytes) {
   const link = element("a", { href: URL.createObjectURL(new Blob([bytes])), download: name });
   document.body.append(link);
@@ -179,6 +142,10 @@ function listen() {
   on("file", "change", async () => {
     if ($("file").files[0]) await take($("file").files[0]);
     $("file").value = "";
+  });
+  on("command", "change", () => {
+    forgetPatch();
+    $("labels-bar").hidden = $("command").value !== "jump";
   });
   on("quiet", "change", drawFields);
   on("find", "input", drawFields);

@@ -46,7 +46,7 @@ function changesByName(machine, report, before, after) {
   return { rows: [...rows.values()].sort((one, other) => (one.name < other.name ? -1 : 1)), changed: changed.size };
 }
 
-function drawChanges({ rows, changed }) {
+function drawChanges({ rows, changed }, others) {
   const columns = ["entries", "selected", "words", "changed"];
   const sum = { name: "all" };
   for (const column of columns) sum[column] = rows.reduce((total, row) => total + row[column], 0);
@@ -54,6 +54,62 @@ function drawChanges({ rows, changed }) {
     columns.map((column) => element("td", { class: "count" }, String(row[column]))));
   const head = element("tr", {}, ["capability", ...columns].map((column) => element("th", { scope: "col" }, column)));
   const table = element("table", {}, element("thead", {}, head), element("tbody", {}, [...rows, sum].map(line)));
-  const astray = `${changed - sum.changed} changed words are in no site of a selected entry.`;
+  const astray = `${changed - sum.changed} changed words are ${others}.`;
   fill("patched", element("div", { class: "scroll" }, table), changed === sum.changed ? "" : element("p", {}, astray));
+}
+
+const ELF = [0x7f, 0x45, 0x4c, 0x46];
+const isElf = (image) => ELF.every((byte, at) => image[at] === byte);
+
+/** What is there of the image that the text names. A vmlinux is patched as such, unless another command is chosen. */
+function drawImageNote() {
+  const wanted = state.machine?.image ?? 0, hasImage = state.image !== null;
+  $("image").hidden = wanted === 0 && !hasImage;
+  $("image-note").textContent = hasImage
+    ? `${state.imageName} has ${state.image.length} bytes; the text names ${wanted}.`
+    : `The text names an image of ${wanted} bytes: open that file to patch it. Nothing else on this page needs it.`;
+  $("patch").disabled = !hasImage || state.report === null;
+  const wantsElf = hasImage && isElf(state.image);
+  if (hasImage && wantsElf !== ($("command").value === "elf")) $("command").value = wantsElf ? "elf" : "patch";
+  $("labels-bar").hidden = $("command").value !== "jump";
+}
+
+function forgetPatch() {
+  state.patched = null;
+  $("save-image").disabled = true;
+  for (const id of ["patch-answer", "patched"]) fill(id);
+}
+
+/** The words of the command that patches. */
+function patchWords() {
+  const command = $("command").value;
+  return command === "jump" ? `jump ${$("labels").value.trim()}` : command;
+}
+
+async function patch() {
+  const turn = ++state.turn;
+  forgetPatch();
+  $("stop").disabled = false;
+  $("patch-answer").textContent = "Patching.";
+  const answer = await engine.run(patchWords(), [textBytes(), state.image]);
+  if (turn !== state.turn) return;
+  $("stop").disabled = true;
+  if (answer.status === 0) showPatched(answer.out);
+  else $("patch-answer").textContent = `${answer.err}${remedyOfPatch(answer)}`;
+  document.body.dataset.patched = String(turn);
+}
+
+function remedyOfPatch({ status, err }) {
+  if (status === 2) return ". The jump labels want two numbers, OFFSET and COUNT: armcaps-kernel2text says both.";
+  const found = err.match(/^armcaps: (patch|elf|jump): (?:entry \d+: )?kind (\d+)/);
+  return found ? `. ${DATA.patching[found[1]][found[2]]}` : "";
+}
+
+function showPatched(patched) {
+  state.patched = patched;
+  $("save-image").disabled = false;
+  const command = $("command").value, changes = changesByName(state.machine, state.report, state.image, patched);
+  $("patch-answer").textContent = `${patched.length} bytes, ${changes.changed} words of four bytes changed.`;
+  // the table of a vmlinux is in a section of its own, and not where a text would say
+  if (command !== "elf") drawChanges(changes, command === "jump" ? "of jump labels" : "in no site of a selected entry");
 }
