@@ -161,6 +161,8 @@ class Trials:
             path.write_bytes(data)
             self.page.choose(path)
         command, _, numbers = words.partition(" ")
+        chosen = self.page.ask("document.getElementById('command').value")
+        drawn.same("command that the page chose", chosen, "elf" if command == "elf" else "patch")
         choice = f"document.getElementById('command').value = '{command}'"
         self.page.ask(f"void ({choice}, document.getElementById('labels').value = '{numbers}')")
         drawn.same(words, self.patched(self.page), hashlib.sha256(program.stdout).digest())
