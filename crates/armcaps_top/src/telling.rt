@@ -1,7 +1,6 @@
 //! The line of an ending on the error stream. Nothing is allocated.
 
-ghost use Rattle.std.specs.Prelude.{◌≡◌, ◌++◌, ◌∷◌, ◌<◌, [], codes};
-ghost use Rattle.std.specs.Char.{digit_char};
+ghost use Rattle.std.specs.Prelude.{◌≡◌, ◌++◌, codes};
 ghost use Rattle.std.specs.Fmt.{decimal};
 ghost use Rattle.armcaps_report.specs.Extending.{Extends};
 ghost use Rattle.armcaps_report.specs.Texts.{cause_text};
@@ -9,7 +8,7 @@ ghost use Rattle.armcaps_top.specs.Document.{refused_text};
 ghost use Rattle.armcaps_top.specs.Elf.{elf_entry_text, elf_kind_text};
 ghost use Rattle.armcaps_top.specs.Ending.{ending_text, halt_text, reason_text};
 ghost use Rattle.armcaps_top.specs.Jump.{label_kind_word, labels_refused_text};
-ghost use Rattle.armcaps_top.specs.Mrs.{eight_digits, read_refused_text};
+ghost use Rattle.armcaps_top.specs.Mrs.{read_refused_text};
 ghost use Rattle.armcaps_top.specs.Patch.{entry_text};
 ghost use Rattle.armcaps_top.specs.Telling.{Tells, ending_line};
 ghost use Rattle.armcaps_top.specs.declared.commands.mrs.ReadRefused.TheVariants as read_refused;
@@ -17,7 +16,7 @@ ghost use Rattle.armcaps_top.specs.declared.refusal.Refusal.TheVariants as Refus
 
 use crate::commands::elf::elf_word;
 use crate::commands::jump::LabelsRefused;
-use crate::commands::mrs::ReadRefused;
+use crate::commands::mrs::{ReadRefused, push_word};
 use crate::ending::Ending;
 use crate::reason::Reason;
 use crate::refusal::Refusal;
@@ -105,7 +104,8 @@ fn push_refusal<T: Text>(text: &mut T, refusal: Refusal) -> Result<(), T::Error>
 // Adds where a text is refused, and why.
 #[tactic(auto, unfolding(crate::specs::Document::refused_text, armcaps_text::specs::Refusal::refusal_text))]
 fn push_place<T: Text>(text: &mut T, line: u32, kind: TextKind) -> Result<(), T::Error>
-    ensures { Extends result T.refused_from (T.bytes text.old) (T.bytes text.new) (refused_text (Refusal.Line line kind)) }
+    ensures { Extends result T.refused_from (T.bytes text.old) (T.bytes text.new)
+        (refused_text (Refusal.Line line kind)) }
 {
     push_kind(text, "line ", line, kind.number(), kind.word())
 }
@@ -113,7 +113,8 @@ fn push_place<T: Text>(text: &mut T, line: u32, kind: TextKind) -> Result<(), T:
 // Adds how many bytes an input may have.
 #[tactic(auto, unfolding(crate::specs::Document::refused_text))]
 fn push_limit<T: Text>(text: &mut T, limit: usize) -> Result<(), T::Error>
-    ensures { Extends result T.refused_from (T.bytes text.old) (T.bytes text.new) (refused_text (Refusal.TooLong limit)) }
+    ensures { Extends result T.refused_from (T.bytes text.old) (T.bytes text.new)
+        (refused_text (Refusal.TooLong limit)) }
 {
     push_between(text, "input longer than ", limit as u64, " bytes")
 }
@@ -121,7 +122,8 @@ fn push_limit<T: Text>(text: &mut T, limit: usize) -> Result<(), T::Error>
 // Adds how many bytes of an image are there.
 #[tactic(auto, unfolding(crate::specs::Document::refused_text))]
 fn push_shortage<T: Text>(text: &mut T, got: usize, of: u32) -> Result<(), T::Error>
-    ensures { Extends result T.refused_from (T.bytes text.old) (T.bytes text.new) (refused_text (Refusal.ImageShort got of)) }
+    ensures { Extends result T.refused_from (T.bytes text.old) (T.bytes text.new)
+        (refused_text (Refusal.ImageShort got of)) }
 {
     push_part(text, "image short: ", got as u64, u64::from(of), " bytes")
 }
@@ -129,7 +131,8 @@ fn push_shortage<T: Text>(text: &mut T, got: usize, of: u32) -> Result<(), T::Er
 // Adds how many bytes follow a document.
 #[tactic(auto, unfolding(crate::specs::Document::refused_text))]
 fn push_trailing<T: Text>(text: &mut T, extra: usize) -> Result<(), T::Error>
-    ensures { Extends result T.refused_from (T.bytes text.old) (T.bytes text.new) (refused_text (Refusal.Trailing extra)) }
+    ensures { Extends result T.refused_from (T.bytes text.old) (T.bytes text.new)
+        (refused_text (Refusal.Trailing extra)) }
 {
     push_after(text, "trailing bytes: ", extra as u64)
 }
@@ -145,7 +148,8 @@ fn push_panic<T: Text>(text: &mut T, halt: Halt) -> Result<(), T::Error>
 // Adds which entry of a table is refused, and why.
 #[tactic(auto, unfolding(crate::specs::Patch::entry_text))]
 fn push_not_patched<T: Text>(text: &mut T, entry: u32, kind: PatchKind) -> Result<(), T::Error>
-    ensures { Extends result T.refused_from (T.bytes text.old) (T.bytes text.new) (codes "patch: " ++ entry_text entry kind) }
+    ensures { Extends result T.refused_from (T.bytes text.old) (T.bytes text.new)
+        (codes "patch: " ++ entry_text entry kind) }
 {
     push_kind(text, "patch: entry ", entry, kind.number(), kind.word())
 }
@@ -153,7 +157,8 @@ fn push_not_patched<T: Text>(text: &mut T, entry: u32, kind: PatchKind) -> Resul
 // Adds why an ELF file is refused.
 #[tactic(auto, unfolding(crate::specs::Elf::elf_kind_text))]
 fn push_not_elf<T: Text>(text: &mut T, kind: u8) -> Result<(), T::Error>
-    ensures { Extends result T.refused_from (T.bytes text.old) (T.bytes text.new) (codes "elf: " ++ elf_kind_text kind) }
+    ensures { Extends result T.refused_from (T.bytes text.old) (T.bytes text.new)
+        (codes "elf: " ++ elf_kind_text kind) }
 {
     push_between(text, "elf: kind ", u64::from(kind), " ")?;
     text.append(elf_word(kind))
@@ -205,7 +210,8 @@ fn label_kind_word(kind: u8) -> &'static str
 
 // Adds why `mrs` reads nothing.
 fn push_not_read<T: Text>(text: &mut T, unread: ReadRefused) -> Result<(), T::Error>
-    ensures { Extends result T.refused_from (T.bytes text.old) (T.bytes text.new) (codes "mrs: " ++ read_refused_text unread) }
+    ensures { Extends result T.refused_from (T.bytes text.old) (T.bytes text.new)
+        (codes "mrs: " ++ read_refused_text unread) }
 {
     text.append("mrs: ")?;
     match unread {
@@ -217,7 +223,8 @@ fn push_not_read<T: Text>(text: &mut T, unread: ReadRefused) -> Result<(), T::Er
 // Adds which core is not admitted.
 #[tactic(auto, unfolding(crate::specs::Mrs::read_refused_text))]
 fn push_absence<T: Text>(text: &mut T, core: u32) -> Result<(), T::Error>
-    ensures { Extends result T.refused_from (T.bytes text.old) (T.bytes text.new) (read_refused_text (read_refused.NotAdmitted core)) }
+    ensures { Extends result T.refused_from (T.bytes text.old) (T.bytes text.new)
+        (read_refused_text (read_refused.NotAdmitted core)) }
 {
     push_between(text, "core ", u64::from(core), " not admitted")
 }
@@ -225,42 +232,18 @@ fn push_absence<T: Text>(text: &mut T, core: u32) -> Result<(), T::Error>
 // Adds which word reads nothing.
 #[tactic(auto, unfolding(crate::specs::Mrs::read_refused_text))]
 fn push_undefined<T: Text>(text: &mut T, word: u32) -> Result<(), T::Error>
-    ensures { Extends result T.refused_from (T.bytes text.old) (T.bytes text.new) (read_refused_text (read_refused.Undefined word)) }
+    ensures { Extends result T.refused_from (T.bytes text.old) (T.bytes text.new)
+        (read_refused_text (read_refused.Undefined word)) }
 {
     text.append("word 0x")?;
     push_word(text, word)?;
     text.append(" undefined")
 }
 
-// Adds the eight hexadecimal digits of a word.
-#[tactic(auto, unfolding(crate::specs::Mrs::eight_digits))]
-fn push_word<T: Text>(text: &mut T, word: u32) -> Result<(), T::Error>
-    ensures { Extends result T.refused_from (T.bytes text.old) (T.bytes text.new) (eight_digits word) }
-{
-    text.append(digit(word >> 28 & 15))?;
-    text.append(digit(word >> 24 & 15))?;
-    text.append(digit(word >> 20 & 15))?;
-    text.append(digit(word >> 16 & 15))?;
-    text.append(digit(word >> 12 & 15))?;
-    text.append(digit(word >> 8 & 15))?;
-    text.append(digit(word >> 4 & 15))?;
-    text.append(digit(word & 15))
-}
-
-// The hexadecimal digit of a number below 16.
-fn digit(number: u32) -> &'static str
-    requires { number < 16 }
-    ensures { result.now ≡ digit_char number ∷ [] }
-{
-    const DIGITS: [&str; 16] = [
-        "0", "1", "2", "3", "4", "5", "6", "7", "8", "9", "a", "b", "c", "d", "e", "f",
-    ];
-    DIGITS[number as usize]
-}
-
 // Adds a core that stops a machine, behind a text, and its cause.
 fn push_stop<T: Text>(text: &mut T, before: &str, core: u32, cause: Cause) -> Result<(), T::Error>
-    ensures { Extends result T.refused_from (T.bytes text.old) (T.bytes text.new) (before.now ++ decimal core ++ codes ": " ++ cause_text cause) }
+    ensures { Extends result T.refused_from (T.bytes text.old) (T.bytes text.new)
+        (before.now ++ decimal core ++ codes ": " ++ cause_text cause) }
 {
     push_between(text, before, u64::from(core), ": ")?;
     push_cause(text, cause)

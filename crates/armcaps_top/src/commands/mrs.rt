@@ -1,10 +1,12 @@
 //! `mrs CORE WORD`: what a program on the core reads by the instruction.
 
-ghost use Rattle.std.specs.Prelude.{◌≡◌, ◌++◌, [], IfOk, OnOk, string_bytes};
+ghost use Rattle.std.specs.Prelude.{◌≡◌, ◌<◌, ◌++◌, ◌∷◌, [], IfOk, OnOk, string_bytes};
+ghost use Rattle.std.specs.Char.{digit_char};
 ghost use Rattle.armcaps_mrs.specs.declared.read.UserRead.{UserRead};
+ghost use Rattle.armcaps_report.specs.Extending.{Extends};
 ghost use Rattle.armcaps_text.specs.Document.{reading_of};
 ghost use Rattle.armcaps_top.specs.Inside.{Answers, IsReady, as_bytes};
-ghost use Rattle.armcaps_top.specs.Mrs.{general_name, read_line, read_refused_of, value_text};
+ghost use Rattle.armcaps_top.specs.Mrs.{eight_digits, general_name, read_line, read_refused_of, value_text};
 ghost use Rattle.armcaps_top.specs.declared.commands.Command.TheVariants as Command;
 ghost use Rattle.armcaps_top.specs.declared.commands.Query.TheVariants as Query;
 
@@ -13,6 +15,7 @@ use crate::ending::Ending;
 use crate::reason::Reason;
 use armcaps_boot::Boot;
 use armcaps_mrs::{UserRead, UserRefused, read_user};
+use armcaps_report::Text;
 use armcaps_text::Machine;
 use std::alloc::{AllocError, Global};
 use std::fmt::Write;
@@ -63,6 +66,32 @@ fn read_line(alloc: Global, read: UserRead) -> Result<String, AllocError>
     push_general_name(&mut text, read.rt)?;
     push_value(&mut text, read.value)?;
     Ok(text)
+}
+
+/// Adds the eight hexadecimal digits of a word.
+#[tactic(auto, unfolding(crate::specs::Mrs::eight_digits))]
+pub fn push_word<T: Text>(text: &mut T, word: u32) -> Result<(), T::Error>
+    ensures { Extends result T.refused_from (T.bytes text.old) (T.bytes text.new) (eight_digits word) }
+{
+    text.append(digit(word >> 28 & 15))?;
+    text.append(digit(word >> 24 & 15))?;
+    text.append(digit(word >> 20 & 15))?;
+    text.append(digit(word >> 16 & 15))?;
+    text.append(digit(word >> 12 & 15))?;
+    text.append(digit(word >> 8 & 15))?;
+    text.append(digit(word >> 4 & 15))?;
+    text.append(digit(word & 15))
+}
+
+// The hexadecimal digit of a number below 16.
+fn digit(number: u32) -> &'static str
+    requires { number < 16 }
+    ensures { result.now ≡ digit_char number ∷ [] }
+{
+    const DIGITS: [&str; 16] = [
+        "0", "1", "2", "3", "4", "5", "6", "7", "8", "9", "a", "b", "c", "d", "e", "f",
+    ];
+    DIGITS[number as usize]
 }
 
 /// Brings the machine up, and reads.
