@@ -13,6 +13,7 @@ READ = """(() => {
   const tags = all("#capabilities ul").map((list) => all("li:not(.lost)", list).map((item) => item.textContent));
   return {
     cores: all("#cores .card").map(({ dataset: { cores, state, cause } }) => [numbers(cores), state, cause]),
+    lost: all("#capabilities .lost").map((item) => item.dataset.lost),
     head, rows, tags, held, refusal: document.querySelector("#refusal strong")?.textContent ?? "",
     marked: document.querySelector("#gutter b")?.textContent ?? null,
     steps: all("#lanes [data-step]").map(({ dataset }) => `${dataset.step} ${dataset.core} ${dataset.reply}`),

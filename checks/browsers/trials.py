@@ -10,7 +10,7 @@ import time
 
 from armcaps_tools import profile, text
 
-from . import documents, drawn, images
+from . import documents, drawn, images, pictures
 from .page import Page
 
 TOP = documents.TOP
@@ -72,6 +72,39 @@ class Trials:
             statuses[status] = statuses.get(status, 0) + 1
         told = ", ".join(f"{number} with status {status}" for status, number in sorted(statuses.items()))
         return f"{count} random documents ({told}), by report, trace and mrs, and as they are drawn"
+
+    def others(self):
+        """What cores would have alone, and what would be won without some: each beside a run of the program."""
+        paths = sorted((TOP / "examples").glob("*.txt"))
+        for name, data in [(path.name, path.read_bytes()) for path in paths] + [("a board", pictures.board())]:
+            report = self.run("report", data)
+            if report.returncode == 0:
+                self.page.put(data)
+                lost = sorted(set(self.page.drawn()["lost"]))
+                drawn.same(f"lost in {name}", lost, sorted(self.lost(data, text.report(report.stdout))))
+        button = "document.querySelector('#holders li[data-holders=\"2\"] button')"
+        self.page.ask(f"void {button}.click()")
+        self.page.wait(f"{button}.parentNode.textContent.includes('Won:')")
+        told = self.page.ask(f"{button}.parentNode.querySelector('p').textContent")
+        now, other = (text.report(self.run("report", given).stdout) for given in (data, without(data, [2])))
+        won = [name for part in ("capabilities", "flags") for name in set_apart(other, now, part)]
+        drawn.same("won without core 2", told.split(". ")[0], f"Won: {', '.join(won)}")
+        return "what cores would have alone, and what would be won without one"
+
+    def lost(self, data, report):
+        """The names that some admitted core would have alone, and the machine has not."""
+        machine, found = text.machine(data), set()
+        features = {row["name"] for row in profile.table("capabilities") if "feature" in row["class"]}
+        for core, state in enumerate(report.states):
+            if state.split(" ")[0] not in ("boot", "early", "late"):
+                continue
+            words = [f"{name} {word:#x}" for name, word in machine.cores[core].items()]
+            first = data.split(b"\n")[0].decode()
+            lines = [first, "core 0", *words, "boot 0", f"cmdline {machine.cmdline}", "finalise", "end", ""]
+            alone = text.report(self.run("report", "\n".join(lines).encode()).stdout)
+            found |= set(set_apart(alone, report, "capabilities")) & features | set(set_apart(alone, report, "flags"))
+            found |= set(map(str, set_apart(alone, report, "lengths")))
+        return found
 
     def words(self):
         """Words that are no command, and `demo`, which reads nothing."""
@@ -210,6 +243,11 @@ class Trials:
         drawn.same("focus", label, "id_aa64pfr0.el2, cores 0-3: 0")
         drawn.same("detail", self.page.ask("document.querySelector('#detail h3').textContent"), "id_aa64pfr0.el2")
         return "the matrix is gone through by arrow keys, and what is focused is explained"
+
+
+def set_apart(one, other, part):
+    """What one report has in a list and the other has not."""
+    return [name for name in getattr(one, part) if name not in getattr(other, part)]
 
 
 def without(data, cores):
