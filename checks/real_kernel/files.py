@@ -9,6 +9,7 @@ import collections
 import json
 import pathlib
 import re
+import shutil
 import subprocess
 
 from armcaps_tools import kernel, machine, vmlinux
@@ -26,7 +27,7 @@ class Failed(Exception):
 
 
 class Files:
-    """A kernel's files with one machine; `kept` is the folder of what is kept, `work` that of large files."""
+    """A kernel's files with one machine; `kept` is the folder of what is kept, `work` one of large files for a time."""
 
     def __init__(self, program, build, guest, kept, work):
         self.program, self.build, self.kept, self.work = program, build, kept, work
@@ -67,6 +68,8 @@ class Files:
             found["jump"] = self.jump(found["strange"])
         except (Failed, subprocess.CalledProcessError) as failure:
             found["strange"].append(str(failure))
+        finally:
+            shutil.rmtree(self.work)
         (self.kept / RESULT).write_text(json.dumps(found, indent=1) + "\n")
         return found
 
