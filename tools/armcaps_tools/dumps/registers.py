@@ -13,9 +13,10 @@ REGISTER = re.compile(r"(?<![\w.])(?:sys_)?([a-z]\w*)(?![\w.])", re.IGNORECASE)
 VALUE = re.compile(r"^(?:\s*\(/\d+\))?[\"')]*(?:\s|=>|->|[=:|,])+[\"']?([^\s,;\"'|]+)[\"']?")
 NUMBER = re.compile(r"\d\S*|[0-9a-f_]+", re.IGNORECASE)
 REMARK = re.compile(r"#|//|/\*|<--")
-# Lauterbach's address of a register, and the operands of OpenOCD's `aarch64 mrs`
+# Lauterbach's address of a register, the operands of OpenOCD's `aarch64 mrs`, and C's macros of Linux and KVM
 SPR = re.compile(r"\bSPR:(?:0x)?([0-9a-f])([0-9a-f])([0-9a-f])([0-9a-f])([0-9a-f])\b", re.IGNORECASE)
 MRS = re.compile(r"\bmrs\s+(\d+)\s+(\d+)\s+(\d+)\s+(\d+)\s+(\d+)", re.IGNORECASE)
+SYS_REG = re.compile(r"\b(?:arm64_)?sys_reg\s*\(\s*" + r"\s*,\s*".join([r"(\d+)"] * 5) + r"\s*\)", re.IGNORECASE)
 # the number alone, after gdb's `$1 = ` or not
 ALONE = re.compile(r"^\s*(?:\$(\d+)\s*=\s*)?((?:0x)?[0-9a-f_]+)\s*$", re.IGNORECASE)
 
@@ -33,7 +34,7 @@ def names():
 
 NAMES = names()
 # a line without one of these names no register
-PARTS = ("idr", "id_aa64", "ctr", "dczid", "sve_vl", "s3_", "spr:", "mrs")
+PARTS = ("idr", "id_aa64", "ctr", "dczid", "sve_vl", "s3_", "spr:", "mrs", "sys_reg")
 
 
 @dataclasses.dataclass
@@ -55,12 +56,17 @@ def generic_mrs(match):
     return f"mrs S{op0}_{op1}_C{crn}_C{crm}_{op2}"
 
 
+def generic_macro(match):
+    op0, op1, crn, crm, op2 = match.groups()
+    return f"S{op0}_{op1}_C{crn}_C{crm}_{op2}"
+
+
 def registers_in(line):
     """The registers that a line names, and what stands before the first of them."""
     lower = line.lower()
     if not any(part in lower for part in PARTS):
         return [], line
-    line = MRS.sub(generic_mrs, SPR.sub(generic, line))
+    line = SYS_REG.sub(generic_macro, MRS.sub(generic_mrs, SPR.sub(generic, line)))
     matches = [match for match in REGISTER.finditer(line) if match.group(1).lower() in NAMES]
     found = []
     for match, following in zip(matches, matches[1:] + [None]):
