@@ -5,12 +5,15 @@
 #   make test        all that can be seen without a proof, in some three minutes: tests, examples, tools and pages
 #   make check       the gate, and the checks of pages and tools after it
 #   make page        makes the program's page, out/armcaps.html, which shows in a browser what it says; wants wasm-opt
+#   make lib         proves and builds the library for C, libarmcaps.a and libarmcaps.so; needs a C compiler
 #   make install     copies to DESTDIR and PREFIX; make uninstall removes what it copied
 PREFIX ?= /usr/local
 BINDIR ?= $(PREFIX)/bin
 DATADIR ?= $(PREFIX)/share
 MANDIR ?= $(DATADIR)/man
 DOCDIR ?= $(DATADIR)/doc/armcaps
+LIBDIR ?= $(PREFIX)/lib
+INCLUDEDIR ?= $(PREFIX)/include
 BASHDIR ?= $(DATADIR)/bash-completion/completions
 ZSHDIR ?= $(DATADIR)/zsh/site-functions
 
@@ -30,6 +33,13 @@ SHAPES := $(wildcard tools/armcaps_tools/dumps/*.py)
 TABLES := $(wildcard tools/data/*.tsv)
 IDREGS := $(patsubst %,tools/idregs/%,Makefile idregs.c registers.h virt.c virt-start.S virt.ld go.S)
 LIBRARY := $(DESTDIR)$(DATADIR)/armcaps
+# the library for C, and the number that rises where its callers have to be built anew
+ARCHIVE := crates/armcaps_c/out/libarmcaps_c.a
+BUILT := build/lib
+OBJCOPY ?= objcopy
+CFLAGS ?= -O2 -g -Wall -Wextra
+SONAME := libarmcaps.so.0
+SHARED := libarmcaps.so.$(VERSION)
 # what is installed can be read by all, whatever the umask; DESTDIR may have a space
 INSTALL := umask 022 && install
 
@@ -60,6 +70,38 @@ PAGE := out/armcaps.html
 page:
 	tools/webpage/make-module $(MODULE)
 	tools/webpage/make-page $(MODULE) $(PAGE)
+
+lib:
+	cd crates/armcaps_c && rt lib
+	@$(MAKE) --no-print-directory link-lib
+
+# one object with the proved code and its memory, of which one call alone can be seen; the static library has it, and the
+# shared one is made of it
+link-lib:
+	@test -f $(ARCHIVE) || { echo "make link-lib: no $(ARCHIVE): run make lib first" >&2; exit 1; }
+	mkdir -p "$(BUILT)"
+	$(CC) $(CFLAGS) -fPIC -c -o "$(BUILT)/heap.o" library/heap.c
+	$(LD) -r -o "$(BUILT)/armcaps.o" "$(BUILT)/heap.o" --whole-archive $(ARCHIVE)
+	$(OBJCOPY) --keep-global-symbol=armcaps_run "$(BUILT)/armcaps.o"
+	rm -f "$(BUILT)/libarmcaps.a"
+	$(AR) rcs "$(BUILT)/libarmcaps.a" "$(BUILT)/armcaps.o"
+	$(CC) $(LDFLAGS) -shared -Wl,-soname,$(SONAME) -Wl,-z,defs -o "$(BUILT)/$(SHARED)" "$(BUILT)/armcaps.o"
+	ln -sf $(SHARED) "$(BUILT)/$(SONAME)"
+	ln -sf $(SONAME) "$(BUILT)/libarmcaps.so"
+
+install-lib:
+	@test -f "$(BUILT)/$(SHARED)" || { echo "make install-lib: no $(BUILT)/$(SHARED): run make lib first" >&2; exit 1; }
+	$(INSTALL) -D -m 644 -t "$(DESTDIR)$(INCLUDEDIR)" library/armcaps.h
+	$(INSTALL) -D -m 644 -t "$(DESTDIR)$(LIBDIR)" "$(BUILT)/libarmcaps.a" "$(BUILT)/$(SHARED)"
+	ln -sf $(SHARED) "$(DESTDIR)$(LIBDIR)/$(SONAME)"
+	ln -sf $(SONAME) "$(DESTDIR)$(LIBDIR)/libarmcaps.so"
+	$(INSTALL) -d "$(DESTDIR)$(LIBDIR)/pkgconfig"
+	umask 022 && sed -e "s,@VERSION@,$(VERSION),; s,@LIBDIR@,$(LIBDIR),; s,@INCLUDEDIR@,$(INCLUDEDIR)," library/armcaps.pc.in \
+		> "$(DESTDIR)$(LIBDIR)/pkgconfig/armcaps.pc"
+
+uninstall-lib:
+	rm -f "$(DESTDIR)$(INCLUDEDIR)/armcaps.h" "$(DESTDIR)$(LIBDIR)/pkgconfig/armcaps.pc"
+	cd "$(DESTDIR)$(LIBDIR)" && rm -f libarmcaps.a libarmcaps.so $(SONAME) $(SHARED)
 
 install:
 	@test -x $(PROGRAM) || { echo "make install: no $(PROGRAM): run make first" >&2; exit 1; }
@@ -104,4 +146,4 @@ uninstall:
 clean:
 	rm -rf build out crates/*/out
 
-.PHONY: all try test check page install uninstall clean
+.PHONY: all try test check page lib link-lib install install-lib uninstall uninstall-lib clean

@@ -1,0 +1,77 @@
+"""The package over the library: the examples have the outputs that stand beside them, and objects say what texts say.
+
+ARMCAPS_LIBRARY names the library, EXAMPLES the folder of examples.
+"""
+
+import os
+import pathlib
+import unittest
+
+import armcaps
+from armcaps import _library
+
+EXAMPLES = pathlib.Path(os.environ.get("EXAMPLES", pathlib.Path(__file__).resolve().parents[2] / "examples"))
+
+
+def example(name):
+    return (EXAMPLES / name).read_bytes()
+
+
+class Calls(unittest.TestCase):
+    def test_outputs_stand_beside_the_examples(self):
+        for text in sorted(EXAMPLES.glob("*.txt")):
+            for command in ("report", "trace"):
+                expected = text.with_suffix("." + command)
+                if expected.exists():
+                    with self.subTest(text=text.name, command=command):
+                        came = armcaps.run(command, text.read_bytes())
+                        self.assertEqual(came, armcaps.Result(0, expected.read_bytes(), ""))
+
+    def test_a_parked_core_has_its_cause(self):
+        found = armcaps.report(example("late-core.txt"))
+        self.assertEqual([core.state for core in found.cores], ["boot", "early", "parked", "late"])
+        self.assertEqual(found.cores[2].cause, "cap 7 HAS_LSE_ATOMICS")
+        self.assertEqual(found.system["id_aa64pfr0_el1"], 0x1100000010110012)
+        self.assertEqual(found.capabilities[41], "HAS_FPSIMD")
+        self.assertIn("atomics", found.flags)
+
+    def test_a_trace_has_steps_and_what_they_changed(self):
+        steps = armcaps.trace(example("interleaved.txt"))
+        self.assertEqual([(step.event, step.reply) for step in steps][-2:], [("store 1", "done"), ("finalise", "done")])
+        self.assertEqual(steps[5].changed["ctr_el0"], 0x84448004)
+
+    def test_a_read_is_a_number_or_not_found(self):
+        self.assertEqual(armcaps.mrs(example("big-little.txt"), 4, 0xD5380003), 0x410FD083)
+        with self.assertRaises(armcaps.NotFound) as caught:
+            armcaps.mrs(example("big-little.txt"), 4, 0xD53B0020)
+        self.assertEqual(caught.exception.status, 9)
+        self.assertEqual(caught.exception.line, "armcaps: mrs: word 0xd53b0020 undefined")
+
+    def test_a_refusal_names_line_and_kind(self):
+        with self.assertRaises(armcaps.Error) as caught:
+            armcaps.report("armcaps 1\nbord 0\n")
+        self.assertEqual((caught.exception.status, caught.exception.place, caught.exception.kind), (3, 2, 4))
+
+    def test_words_that_are_no_command(self):
+        self.assertEqual(armcaps.run("repport").status, 2)
+        self.assertEqual(armcaps.run(b"report \xff"), armcaps.Result(1, b"", ""))
+
+    def test_kernels_that_are_none(self):
+        text = example("one-core.txt")
+        for call, status in ((armcaps.elf, 10), (lambda text: armcaps.jump(0, 1, text), 11)):
+            with self.assertRaises(armcaps.Error) as caught:
+                call(text)
+            self.assertEqual(caught.exception.status, status)
+
+    def test_an_image_that_is_given_apart(self):
+        text = example("one-core.txt").replace(b"end\n", b"image 4\n")
+        self.assertEqual(armcaps.patch(text, b"\x1f\x20\x03\xd5"), b"\x1f\x20\x03\xd5")
+
+    def test_too_little_room_tells_how_much_is_wanted(self):
+        text, whole = example("one-core.txt"), example("one-core.report")
+        self.assertEqual(_library.call(b"report", text, len(whole) - 1), (5, b"", len(whole), b""))
+        self.assertEqual(_library.call(b"report", text, len(whole)), (0, whole, len(whole), b""))
+
+
+if __name__ == "__main__":
+    unittest.main()
