@@ -16,7 +16,7 @@ _Static_assert(sizeof(u64) == 8 && sizeof(void *) == 8, "this file is for a memo
 #define PAGE 65536UL
 #define HEAD 16UL
 
-/* --- the heap: blocks by size, four sizes to each power of two, each with its size before it --- */
+/* --- the heap: blocks by size, at most four sizes to a power of two, each with its size before it --- */
 
 struct block {
     u64 size;
@@ -27,11 +27,11 @@ extern u8 __heap_base;
 static u8 *top, *end;
 static struct block *freed[4 * 64];
 
-/* The least size that is kept for a request, and its place among the sizes. */
+/* The least size that is kept for a request, a multiple of 16, and its place among the sizes. */
 static u64 class_of(u64 size, u64 *rounded)
 {
     u64 power = size <= 64 ? 6 : 64 - (u64)__builtin_clzl(size - 1);
-    u64 step = (1UL << power) / 8, half = (1UL << power) / 2;
+    u64 step = power == 6 ? 16 : (1UL << power) / 8, half = (1UL << power) / 2;
     u64 quarters = size <= half ? 1 : (size - half + step - 1) / step;
     *rounded = half + quarters * step;
     return power * 4 + quarters - 1;
