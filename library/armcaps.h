@@ -35,8 +35,8 @@ enum armcaps_status {
  * input, input_length  what the program would read: a machine text, and behind it the image where it names one
  * out, out_room        where the output goes; in every answer but ARMCAPS_DONE it is left as it was
  * out_length           gets how long the output is in ARMCAPS_DONE and ARMCAPS_NO_ROOM, and 0 in all others
- * err, err_room        where the line goes that the program would print on its error stream, with its line feed: as much
- *                      of it as there is room for; what stands behind is left as it was
+ * err, err_room        where the line goes that the program would print on its error stream, with its line feed: as
+ *                      much of it as there is room for; what stands behind is left as it was
  * err_length           gets how long that line is, also where it was cut: 0 in ARMCAPS_DONE, ARMCAPS_NO_TEXT and
  *                      ARMCAPS_NO_ROOM; ARMCAPS_ERR_ROOM bytes are room for every line
  *

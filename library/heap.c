@@ -1,7 +1,7 @@
 /* Memory for the proved library: what it asks for comes from malloc, realloc and free.
  *
- * The proof rests on what is said of each function here. A block is aligned to `align`, a power of two up to 16 that divides
- * `size`: malloc aligns to 16 bytes on the systems that are built for.
+ * The proof rests on what is said of each function here. A block is aligned to `align`, a power of two up to 16 that
+ * divides `size`: malloc aligns to 16 bytes on the systems that are built for.
  */
 #include <stddef.h>
 #include <stdint.h>
@@ -28,7 +28,7 @@ struct tried rattle_alloc(size_t size, size_t align)
     return answer(malloc(size != 0 ? size : align));
 }
 
-/* The block with `size` bytes, maybe elsewhere, the first of which are as they were; or none, and the block is as it was. */
+/* The block with `size` bytes, maybe elsewhere, the first of which are as they were; or none, and the block stays. */
 struct tried rattle_realloc(void *block, size_t kept, size_t size, size_t align)
 {
     (void)kept;
