@@ -5,6 +5,8 @@ mod buffer;
 mod growing_sink;
 mod outcome;
 mod slice_source;
+#[cfg(test)]
+mod tests;
 mod words;
 
 ghost use Rattle.std.specs.Prelude.{◌≡◌, ◌≢◌, ◌<◌, ◌≤◌, if◌then◌else◌, length};
