@@ -9,7 +9,7 @@ _armcaps() {
     armcaps-patch-diff) options='--nm --all --site --help --version' ;;
     armcaps-page) options='--page --help --version' ;;
     *)
-        [ "$COMP_CWORD" = 1 ] && COMPREPLY=($(compgen -W 'report patch mrs demo trace elf jump' -- "$word"))
+        [ "$COMP_CWORD" = 1 ] && COMPREPLY=($(compgen -W 'report patch mrs demo trace elf jump audit' -- "$word"))
         return ;;
     esac
     case $before in

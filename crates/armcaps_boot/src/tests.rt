@@ -107,8 +107,8 @@ fn refusals_in_their_order(rt: HostRuntime) -> Result<(), Fail> {
     Ok(())
 }
 
-// What a core that differs from the boot core in one register is answered: at its check, or at its local step where it is
-// late.
+// What a core that differs from the boot core in one register is answered: at its check, or at its local step where it
+// is late.
 #[test]
 fn cores_with_causes(rt: HostRuntime) -> Result<(), Fail> {
     for (is_late, reg, boot, other, reply) in [

@@ -8,8 +8,8 @@ ghost use Rattle.armcaps_elf.specs.Sections.{Follows, begin_of, overlap};
 use crate::begin::Begin;
 use crate::section::Section;
 
-// Whether two of these sections, which stand in the order of their begins, share a byte there: then one begins before the
-// end of the section before it.
+// Whether two of these sections, which stand in the order of their begins, share a byte there: then one begins
+// before the end of the section before it.
 pub(crate) fn share(sections: &[Section], begin: Begin) -> bool
     requires rise { IsNonDecreasingBy (begin_of begin) sections.now }
     requires some { All (λ section. 0 < section.size) sections.now }

@@ -86,7 +86,8 @@ planned_word plan image place =
 abbrev pub planned_byte : Planned → List ℕ → ℕ → ℕ
 planned_byte plan image place =
     let original = slice_index image place in
-    option_map_or (λ kept. byte_of (word_by plan image place kept) (place % 4)) (last_that (kept_covers place) plan.kept)
+    option_map_or (λ kept. byte_of (word_by plan image place kept) (place % 4))
+    (last_that (kept_covers place) plan.kept)
     original
 
 -- the image that a plan makes of an image

@@ -26,7 +26,8 @@ state_text _ = []
 -- the line of a core
 unfoldable pub core_line : ℕ → ℕ → CoreState → List ℕ
 core_line boot number state =
-    codes "core " ++ decimal number ++ codes " " ++ (if number == boot then codes "boot" else state_text state) ++ 10 ∷ []
+    codes "core " ++ decimal number ++ codes " "
+    ++ (if number == boot then codes "boot" else state_text state) ++ 10 ∷ []
 
 -- the line of a system register
 abbrev pub register_line : SysReg → ℕ → List ℕ
@@ -43,9 +44,12 @@ varies_line register varies = if varies then codes "varies " ++ name_of register
 -- the line of a field: what its override came to on the boot core; nothing where it has none
 abbrev pub note_line : SysReg → Row → Note → List ℕ
 note_line register row note.None = []
-note_line register row note.Forced = codes "note " ++ short_name_of register ++ codes "." ++ row.name ++ codes " forced\n"
-note_line register row note.Ignored = codes "note " ++ short_name_of register ++ codes "." ++ row.name ++ codes " ignored\n"
-note_line register row note.Already = codes "note " ++ short_name_of register ++ codes "." ++ row.name ++ codes " already\n"
+note_line register row note.Forced =
+    codes "note " ++ short_name_of register ++ codes "." ++ row.name ++ codes " forced\n"
+note_line register row note.Ignored =
+    codes "note " ++ short_name_of register ++ codes "." ++ row.name ++ codes " ignored\n"
+note_line register row note.Already =
+    codes "note " ++ short_name_of register ++ codes "." ++ row.name ++ codes " already\n"
 
 -- the line of a capability, where it is enabled
 abbrev pub capability_line : Bool → ℕ → List ℕ

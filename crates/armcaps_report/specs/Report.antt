@@ -1,4 +1,5 @@
--- The report of a machine that was brought up: its groups of lines, one after the other. The format is this project's own.
+-- The report of a machine that was brought up: its groups of lines, one after the other. The format is this project's
+-- own.
 use Rattle.std.specs.Prelude.{ℕ, Bool, List, [], ◌∷◌, ◌++◌, length, codes, slice_get}
 use Rattle.std.specs.Option.{option_map_or}
 use Rattle.std.specs.List.{flat_map, list_any, range_with_len}
@@ -29,7 +30,8 @@ varies_among boot cores register = list_any (λ core. core_varies boot core regi
 -- the line of the field at an index of a register's table
 unfoldable pub note_line_at : FieldOverrides → Core → SysReg → ℕ → List ℕ
 note_line_at overrides boot register index =
-    option_map_or (λ row. note_line register row (field_note overrides boot register index row)) (slice_get (rows_of register) index) []
+    option_map_or (λ row. note_line register row (field_note overrides boot register index row))
+    (slice_get (rows_of register) index) []
 
 -- the lines of a register's fields
 abbrev pub note_lines : FieldOverrides → Core → SysReg → List ℕ
@@ -49,21 +51,26 @@ hwcap_lines advertised =
 -- what became of each core
 abbrev pub core_lines : Findings → List ℕ
 core_lines found =
-    flat_map (λ number. core_line found.board.boot number (state_at found.states number)) (range_with_len 0 (length found.board.cores))
+    flat_map (λ number. core_line found.board.boot number (state_at found.states number))
+    (range_with_len 0 (length found.board.cores))
 
 -- the system registers, over the cores that were ever admitted
 abbrev pub register_lines : Findings → List ℕ
 register_lines found =
-    flat_map (λ register. register_line register (system_word found.board.overrides (admitted_cores found.board found.states) register)) tracked
+    flat_map (λ register. register_line register
+    (system_word found.board.overrides (admitted_cores found.board found.states) register)) tracked
 
 -- the registers as users see them, over the cores that were ever admitted
 abbrev pub user_lines : Findings → List ℕ
-user_lines found = flat_map (λ register. user_line register (user_word found.board.overrides (admitted_cores found.board found.states) register)) tracked
+user_lines found =
+    flat_map (λ register. user_line register
+    (user_word found.board.overrides (admitted_cores found.board found.states) register)) tracked
 
 -- the registers in which some such core differs from the boot core
 abbrev pub varies_lines : Findings → List ℕ
 varies_lines found =
-    flat_map (λ register. varies_line register (varies_among (boot_core found.board) (admitted_cores found.board found.states) register)) tracked
+    flat_map (λ register. varies_line register
+    (varies_among (boot_core found.board) (admitted_cores found.board found.states) register)) tracked
 
 -- what the overrides of all fields came to
 abbrev pub all_note_lines : Findings → List ℕ
@@ -72,7 +79,8 @@ all_note_lines found = flat_map (note_lines found.board.overrides (boot_core fou
 -- the capabilities that are enabled
 unfoldable pub capability_lines : Findings → List ℕ
 capability_lines found =
-    flat_map (λ number. capability_line (capability_enabled found.board (early_cores found.board found.states) number) number)
+    flat_map (λ number. capability_line
+    (capability_enabled found.board (early_cores found.board found.states) number) number)
     (range_with_len 0 capability_count)
 
 -- the vector lengths that programs are told of

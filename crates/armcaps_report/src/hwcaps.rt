@@ -32,8 +32,10 @@ pub(crate) fn push_hwcaps(text: &mut String, boot: &Boot) -> Result<(), AllocErr
 // The hwcaps that are advertised.
 fn hwcaps(boot: &Boot) -> HwSet
     requires { boot.now.final ≡ true }
-    ensures first { result.hwcap ≡ hwcap_word (hwcap_advertised boot.now.board (early_cores boot.now.board boot.now.states)) }
-    ensures second { result.hwcap2 ≡ hwcap2_word (hwcap_advertised boot.now.board (early_cores boot.now.board boot.now.states)) }
+    ensures first { result.hwcap ≡
+        hwcap_word (hwcap_advertised boot.now.board (early_cores boot.now.board boot.now.states)) }
+    ensures second { result.hwcap2 ≡
+        hwcap2_word (hwcap_advertised boot.now.board (early_cores boot.now.board boot.now.states)) }
 {
     boot.facts_hold();
     boot.hwcaps()

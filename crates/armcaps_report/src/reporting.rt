@@ -10,8 +10,8 @@ use crate::groups::push_group;
 use armcaps_boot::Boot;
 use std::alloc::{AllocError, Global};
 
-/// The report of a machine after finalisation. No core of it is on its way up, and none has stopped it. An `Err` is want of
-/// memory.
+/// The report of a machine after finalisation. No core of it is on its way up, and none has stopped it. An `Err` is
+/// want of memory.
 #[tactic(auto, unfolding(crate::specs::Report::report_of))]
 pub fn report(alloc: Global, boot: &Boot) -> Result<String, AllocError>
     requires finalised { boot.now.final ≡ true }

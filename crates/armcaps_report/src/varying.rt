@@ -15,7 +15,8 @@ use armcaps_tables::CoreRegs;
 
 /// Whether a strict field of the register differs between the boot core and some core that was ever admitted.
 pub(crate) fn varies_among(boot: &Boot, register: SysReg) -> bool
-    ensures { result ≡ varies_among (boot_core boot.now.board) (admitted_cores boot.now.board boot.now.states) register }
+    ensures { result ≡
+        varies_among (boot_core boot.now.board) (admitted_cores boot.now.board boot.now.states) register }
 {
     for number in 0..boot.count() {
         if differs(boot, number, register) {

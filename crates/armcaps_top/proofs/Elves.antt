@@ -1,10 +1,10 @@
 -- What `elf` makes of a machine that was brought up.
-use Rattle.std.proofs.Common.{◌≡◌, ℕ, List, [], None, Option, ap, drop, refl, subst, sym, ◌∙◌}
+use Rattle.std.proofs.Common.{◌≡◌, ℕ, List, [], None, Option, ap, drop, subst, sym, ◌∙◌}
 use Rattle.std.specs.Prelude.{Result, Ok, Err, IfOk, IfErr}
 use Rattle.armcaps_alt.specs.Entries.{Features}
 use Rattle.armcaps_alt.specs.Names.{NameLists}
 use Rattle.armcaps_alt.specs.Patched.{patched_image}
-use Rattle.armcaps_boot.specs.Findings.{Findings, findings_after, findings_of}
+use Rattle.armcaps_boot.specs.Findings.{Findings, findings_after}
 use Rattle.armcaps_boot.specs.World.{World}
 use Rattle.armcaps_elf.specs.Images.{flat_image, put_image}
 use Rattle.armcaps_patch.specs.Features.{features_of, features_of_findings}

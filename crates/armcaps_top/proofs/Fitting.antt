@@ -1,5 +1,5 @@
 -- Which reasons the answers of commands can have.
-use Rattle.std.proofs.Common.{◌≡◌, ◌⊎◌, inl, inr, ℕ, ◌+◌, ◌*◌, ◌≤◌, Bool, true, false, cond, nat_lt, length, List, [], ◌∷◌, Option, Some, None, refl, ap, subst}
+use Rattle.std.proofs.Common.{◌≡◌, ◌⊎◌, inl, inr, ℕ, ◌+◌, ◌*◌, ◌≤◌, Bool, true, false, cond, drop, nat_lt, take, length, List, [], ◌∷◌, Option, Some, None, refl, ap, subst}
 use Rattle.std.specs.Prelude.{Result, Ok, Err}
 use Rattle.std.specs.Option.{option_and_then, option_map, option_or}
 use Rattle.armcaps_alt.specs.declared.table_place.Layout.{Layout}
@@ -13,13 +13,15 @@ use Rattle.armcaps_mrs.specs.Reading.{user_read}
 use Rattle.armcaps_jump.specs.Jumped.{jump_image}
 use Rattle.armcaps_jump.specs.Refusals as labels
 use Rattle.armcaps_jump.specs.Refusals.{first_refusal as first_label_refusal}
+use Rattle.armcaps_pool.specs.Audits.{first_difference}
 use Rattle.armcaps_patch.specs.Features.{features_of_findings}
 use Rattle.armcaps_boot.specs.declared.halt.Halt.{Halt}
 use Rattle.armcaps_text.proofs.GeneratedReading.{generated_up}
 use Rattle.armcaps_text.specs.Generator.{generated_reading}
 use Rattle.armcaps_top.specs.Answer.{Answer, answer_for, steps_of, halt_in, of_document, output_in, read_or_not, refused, unless_stopped}
+use Rattle.armcaps_top.specs.Audit.{audit_reason, yes_line}
 use Rattle.armcaps_top.specs.Demo.{generated_document}
-use Rattle.armcaps_top.specs.Document.{Document, document}
+use Rattle.armcaps_top.specs.Document.{Document, document, document_pair}
 use Rattle.armcaps_top.specs.Elf.{elf_reason, file_kind, first_unloaded, patched_file, table_in, unloaded_at}
 use Rattle.armcaps_top.specs.Ending.{reason_status}
 use Rattle.armcaps_top.specs.Inside.{AreCoresGiven}
@@ -28,12 +30,12 @@ use Rattle.armcaps_top.specs.Mrs.{read_output}
 use Rattle.armcaps_top.specs.Patch.{not_patched, patch_output, refused_entry, unless, unless_entry_refused}
 use Rattle.armcaps_top.specs.Run.{can_end, is_some_stopped, reads_input}
 use Rattle.armcaps_top.specs.declared.commands.Command.{Command}
-use Rattle.armcaps_top.specs.declared.commands.Command.TheVariants.{Ask, Patch, Elf, Jump, Demo}
+use Rattle.armcaps_top.specs.declared.commands.Command.TheVariants.{Ask, Patch, Elf, Jump, Audit, Demo}
 use Rattle.armcaps_top.specs.declared.commands.Query.TheVariants.{Report, Mrs, Trace}
 use Rattle.armcaps_top.specs.declared.commands.jump.LabelsRefused.TheVariants.{TableOutside, Entry}
 use Rattle.armcaps_top.specs.declared.commands.mrs.ReadRefused.{ReadRefused}
 use Rattle.armcaps_top.specs.declared.reason.Reason.{Reason}
-use Rattle.armcaps_top.specs.declared.reason.Reason.TheVariants.{Usage, Refused, Panicked, NotPatched, NotRead, NotElf, NotLoaded, NotJumped}
+use Rattle.armcaps_top.specs.declared.reason.Reason.TheVariants.{Usage, Refused, Panicked, NotPatched, NotRead, NotElf, NotLoaded, NotJumped, Differs}
 use Rattle.armcaps_top.specs.declared.refusal.Refusal.{Refusal}
 
 -- what the reason says of the answer that has it
@@ -53,6 +55,7 @@ IsOwn command (NotRead refused) = can_end command 9 ≡ true
 IsOwn command (NotJumped refused) = can_end command 11 ≡ true
 IsOwn command (NotElf kind) = can_end command 10 ≡ true
 IsOwn command (NotLoaded entry kind) = can_end command 10 ≡ true
+IsOwn command (Differs place) = can_end command 12 ≡ true
 
 own_status : (command : Option Command) (reason : Reason) → IsOwn command reason → can_end command (reason_status reason) ≡ true
 own_status command Usage own = absurd own
@@ -63,6 +66,7 @@ own_status command (NotRead refused) own = own
 own_status command (NotJumped refused) own = own
 own_status command (NotElf kind) own = own
 own_status command (NotLoaded entry kind) own = own
+own_status command (Differs place) own = own
 
 some_stopped : (found : Document) (halt : Halt) → halt_in found ≡ Some halt → is_some_stopped (found ∷ []) ≡ true
 some_stopped found halt is = rw is refl
@@ -161,6 +165,14 @@ own_elf features line file =
     (own_then Elf (λ (number : ℕ). option_map (NotLoaded number) (unloaded_at features file number)) _
     (λ number. own_map Elf (NotLoaded number) (unloaded_at features file number) (λ kind. refl))))
 
+-- why an image is not taken
+own_audit : (features : Features) (layout : Layout) (image judged : List ℕ) (reason : Reason) → audit_reason features layout image judged ≡ Some reason → IsOwn (Some Audit) reason
+unfolding audit_reason
+own_audit features layout image judged =
+    own_or Audit (refused_entry features image layout) (option_map Differs (first_difference judged (patched_image features image layout)))
+    (own_map Audit not_patched (first_refusal features image layout) (λ refusal. refl))
+    (own_map Audit Differs (first_difference judged (patched_image features image layout)) (λ place. refl))
+
 abbrev findings_of_document : Document → Findings
 findings_of_document found = findings_after found.reading.board (steps_of found)
 
@@ -190,6 +202,9 @@ fits (Some (Jump table count)) bytes given = fits_input (Jump table count) (docu
     (patched_image (features_of_document found) found.image found.reading.layout) other refl))
 fits (Some Elf) bytes given = fits_input Elf (document bytes) refl refl (λ found. own_unless Elf (elf_reason (features_of_document found) found.reading.layout found.image)
     (patched_file (features_of_document found) found.image) (own_elf (features_of_document found) found.reading.layout found.image))
+fits (Some Audit) bytes given = fits_input Audit (document_pair bytes) refl refl (λ found. own_unless Audit
+    (audit_reason (features_of_document found) found.reading.layout (take found.reading.image found.image) (drop found.reading.image found.image)) yes_line
+    (own_audit (features_of_document found) found.reading.layout (take found.reading.image found.image) (drop found.reading.image found.image)))
 fits (Some (Demo seed cores)) bytes given =
     fits_found (Demo seed cores) (generated_document seed cores) (inr (demo_goes seed cores given.0)) (λ reason same. absurd (let no : ⊥ = cc in no))
 
@@ -201,6 +216,7 @@ stream_ends (Ask (Mrs core word)) = (refl, refl, refl)
 stream_ends Patch = (refl, refl, refl)
 stream_ends (Jump table count) = (refl, refl, refl)
 stream_ends Elf = (refl, refl, refl)
+stream_ends Audit = (refl, refl, refl)
 stream_ends (Demo seed cores) = (refl, refl, refl)
 
 pub read_ends : (command : Command) → reads_input (Some command) ≡ true → can_end (Some command) 4 ≡ true
@@ -210,4 +226,5 @@ read_ends (Ask (Mrs core word)) reads = refl
 read_ends Patch reads = refl
 read_ends (Jump table count) reads = refl
 read_ends Elf reads = refl
+read_ends Audit reads = refl
 read_ends (Demo seed cores) reads = absurd (let no : ⊥ = cc in no)

@@ -1,4 +1,6 @@
 pub mod Answered
+pub mod Audited
+pub mod AuditedImages
 pub mod Brought
 pub mod CoreCounts
 pub mod Covered
@@ -8,6 +10,7 @@ pub mod Fitting
 pub mod Generated
 pub mod GeneratedSites
 pub mod Images
+pub mod KnownNumbers
 pub mod Labels
 pub mod Limits
 pub mod Loaded

@@ -1,6 +1,6 @@
 -- The limits of the formats, and inputs that are longer.
 use Rattle.std.proofs.Common.{◌≡◌, ℕ, ◌+◌, ◌<◌, ◌≤◌, ◌⊎◌, inl, inr, Bool, true, false, cond, nat_lt, List, [], ◌++◌, length, Option, None, Some, refl, sym, ap, ◌∙◌, arith, length-append, lit≤}
-use Rattle.std.specs.Prelude.{Err, option_and_then, slice_get, unwrap_or}
+use Rattle.std.specs.Prelude.{Err, IfErr, Ok, Result, option_and_then, slice_get, unwrap_or}
 use Rattle.std.proofs.lemmas.Bool.Decides.{nat_tests}
 use Rattle.std.proofs.lemmas.List.{take-append-le}
 use Rattle.armcaps_io.specs.Streams.{GivesAtMost, Moves}
@@ -8,8 +8,14 @@ use Rattle.armcaps_io.proofs.StreamLemmas.{Moves-trans}
 use Rattle.armcaps_text.specs.Formats.{format_named, format_of, format_one, format_two}
 use Rattle.armcaps_text.specs.Lines.{ended_lines, first_mebibyte, lines_of}
 use Rattle.armcaps_text.specs.declared.format.Format.{Format}
-use Rattle.armcaps_top.specs.Document.{document}
-use Rattle.armcaps_top.specs.Inside.{IsNoDocument}
+use Rattle.armcaps_top.specs.Answer.{of_document, refused}
+use Rattle.armcaps_top.specs.Document.{document, document_pair}
+use Rattle.armcaps_top.specs.Inside.{IsLonger, IsNoDocument, IsNotRead, IsUnreadPast}
+use Rattle.armcaps_top.specs.Run.{Change}
+use Rattle.armcaps_top.specs.declared.commands.Command.TheVariants.{Audit}
+use Rattle.armcaps_top.specs.declared.ending.Ending.{Ending}
+use Rattle.armcaps_top.specs.declared.ending.Ending.TheVariants.{Done, ReadFault, WriteFault, Memory, NoOutput}
+use Rattle.armcaps_top.specs.declared.reason.Reason.TheVariants.{Refused}
 use Rattle.armcaps_top.specs.declared.refusal.Refusal.TheVariants.{TooLong}
 
 by_tests : (first second : Bool) → (unwrap_or (cond first (Some format_one) (cond second (Some format_two) None)) format_one ≡ format_one)
@@ -74,3 +80,34 @@ gave_at_most left between after none first slice bytes format empty before more 
       count = omega (arith, ap length grown, within, limit, (limits first).most);
       given = moved.given;
     }
+
+-- an input of which more bytes came than a limit
+pub is_longer : (left after : Option (List ℕ)) (bytes : List ℕ) (limit : ℕ) → Moves left after [] bytes → limit < length bytes → IsLonger left limit
+is_longer None after bytes limit moved long = record { bytes = bytes; told = tt; longer = long }
+is_longer (Some input) None bytes limit moved long = absurd moved.given
+is_longer (Some input) (Some rest) bytes limit moved long =
+    let given : input ≡ bytes ++ rest = moved.given ∙ ap (λ (part : List ℕ). part ++ rest) (sym moved.grown) in
+    record { bytes = input; told = refl; longer = rw given (omega (arith, length-append bytes rest)) }
+
+pair_longer : (input : List ℕ) → 269484032 < length input → document_pair input ≡ Err (TooLong 269484032)
+unfolding document_pair
+pair_longer input long =
+    let test : nat_lt 269484032 (length input) ≡ true = grind (arith, nat_tests) in rw test refl
+
+-- an input of `audit` that was not read whole
+pub pair_not_read : (input : Change) (ending : Ending) → IsUnreadPast 269484032 input.old input.before input.now ending → IsNotRead Audit input ending
+pair_not_read input Done is = absurd is
+pair_not_read input ReadFault is = (refl, is)
+pair_not_read input WriteFault is = absurd is
+pair_not_read input Memory is = tt
+pair_not_read input (NoOutput (Refused (TooLong limit))) is = record {
+  bytes = is.1.bytes;
+  told_bytes = λ reads. is.1.told;
+  refused = ap (of_document Audit) (pair_longer is.1.bytes is.1.longer) ∙ ap (λ (most : ℕ). refused (TooLong most)) (sym is.0);
+}
+pair_not_read input (NoOutput (Refused _)) is = absurd is
+pair_not_read input (NoOutput _) is = absurd is
+
+pub pair_unread : {A : Type 0} (made : Result A Ending) (input : Change) → IfErr made (IsUnreadPast 269484032 input.old input.before input.now) → IfErr made (IsNotRead Audit input)
+pair_unread (Ok bytes) input is = tt
+pair_unread (Err ending) input is = pair_not_read input ending is

@@ -1,5 +1,5 @@
 -- Entries that are loaded, and the first that isn't.
-use Rattle.std.proofs.Common.{◌≡◌, ◌<◌, ℕ, List, None, Option, Some, ap, arith, find, get_or, is_some, length, refl, subst, sym, zero-add, ◌∙◌}
+use Rattle.std.proofs.Common.{◌≡◌, ◌<◌, ℕ, List, None, Option, Some, ap, arith, find, get_or, is_some, refl, subst, sym, zero-add, ◌∙◌}
 use Rattle.std.specs.List.{range_with_len}
 use Rattle.std.specs.Option.{option_and_then, option_map, option_or}
 use Rattle.std.proofs.lemmas.List.FromFn.{get_or-range_with_len, length-range_with_len}
@@ -42,7 +42,7 @@ module _ (kind : ℕ → Option ℕ) (count : ℕ) where
       rw (found, here, is) refl
 
 -- the first of the reasons for which an ELF file isn't written
-first_why : (first second : Option Reason) (ending : Ending) → IsWhy first ending → IsWhy (option_or first second) ending
+pub first_why : (first second : Option Reason) (ending : Ending) → IsWhy first ending → IsWhy (option_or first second) ending
 first_why first second Done so = absurd so
 first_why first second ReadFault so = absurd so
 first_why first second WriteFault so = absurd so

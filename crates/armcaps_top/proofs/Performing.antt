@@ -1,5 +1,5 @@
 -- From what is made of an answer to what a command does.
-use Rattle.std.proofs.Common.{◌≡◌, ◌≢◌, ℕ, ◌+◌, ◌-◌, ◌≤◌, Bool, true, false, cond, nat_lt, List, [], ◌∷◌, ◌++◌, length, drop, Option, Some, None, refl, sym, ap, subst, ◌∙◌, arith}
+use Rattle.std.proofs.Common.{◌≡◌, ◌≢◌, ℕ, ◌+◌, ◌*◌, ◌-◌, ◌≤◌, Bool, true, false, cond, nat_lt, List, [], ◌∷◌, ◌++◌, length, drop, Option, Some, None, refl, sym, ap, subst, ◌∙◌, arith}
 use Rattle.std.specs.Prelude.{Result, Ok, Err, IfSome, unwrap_or}
 use Rattle.std.proofs.lemmas.Bool.Decides.{nat_tests}
 use Rattle.armcaps_boot.specs.World.{World}
@@ -9,12 +9,12 @@ use Rattle.armcaps_text.specs.Document.{Outcome, Reads, Refuses, Reading, outcom
 use Rattle.armcaps_text.specs.Formats.{format_of}
 use Rattle.armcaps_top.specs.Answer.{Answer, answer_of, of_document, output_in, refused, unless_stopped}
 use Rattle.armcaps_top.specs.Demo.{generated_document}
-use Rattle.armcaps_top.specs.Document.{Document, document, document_after, unless_refused}
-use Rattle.armcaps_top.specs.Inside.{AreCoresGiven, Comes, Ends, IsNotRead, IsNotUp, IsRead, IsRefusedSo, IsThrough, IsUp, IsWhy, Performs}
+use Rattle.armcaps_top.specs.Document.{Document, document, document_after, document_pair, pair_after, unless_refused}
+use Rattle.armcaps_top.specs.Inside.{AreCoresGiven, Comes, Ends, IsNotRead, IsNotUp, IsRead, IsRefusedSo, IsThrough, IsUp, IsWhy, Performs, limit_of}
 use Rattle.armcaps_top.specs.Patch.{unless}
 use Rattle.armcaps_top.specs.Run.{Change, EndsSo, most_read, reads_input}
 use Rattle.armcaps_top.specs.declared.commands.Command.{Command}
-use Rattle.armcaps_top.specs.declared.commands.Command.TheVariants.{Ask, Patch, Elf, Jump, Demo}
+use Rattle.armcaps_top.specs.declared.commands.Command.TheVariants.{Ask, Patch, Elf, Jump, Audit, Demo}
 use Rattle.armcaps_top.specs.declared.ending.Ending.{Ending}
 use Rattle.armcaps_top.specs.declared.ending.Ending.TheVariants.{Done, ReadFault, WriteFault, Memory, NoOutput}
 use Rattle.armcaps_top.specs.declared.reason.Reason.{Reason}
@@ -33,24 +33,29 @@ no_memory answer machines = record {
 }
 
 -- an input that is refused
-pub not_taken : (command : Command) (answer : Answer) (bytes : List ℕ) (machines : List World) (ending : Ending) → answer ≡ of_document command (document bytes)
-    → machines ≡ [] → IsRefusedSo bytes ending → Comes answer machines (Err ending)
-not_taken command answer bytes machines Done of none is = absurd is
-not_taken command answer bytes machines ReadFault of none is = absurd is
-not_taken command answer bytes machines WriteFault of none is = absurd is
-not_taken command answer bytes machines Memory of none is = no_memory answer machines
-not_taken command answer bytes machines (NoOutput (Refused refusal)) of none is = rw (of, is, none) (record {
+pub not_taken : (command : Command) (answer : Answer) (read : Result Document Refusal) (machines : List World) (ending : Ending) → answer ≡ of_document command read
+    → machines ≡ [] → IsRefusedSo read ending → Comes answer machines (Err ending)
+not_taken command answer read machines Done of none is = absurd is
+not_taken command answer read machines ReadFault of none is = absurd is
+not_taken command answer read machines WriteFault of none is = absurd is
+not_taken command answer read machines Memory of none is = no_memory answer machines
+not_taken command answer read machines (NoOutput (Refused refusal)) of none is = rw (of, is, none) (record {
   output = tt;
   instead = refl;
   machines_are = λ had. tt;
   safe = tt;
 })
-not_taken command answer bytes machines (NoOutput _) of none is = absurd is
+not_taken command answer read machines (NoOutput _) of none is = absurd is
 
 -- what a document is, its image apart
 pub document_is : (reading : Reading) (image bytes : List ℕ) (place : ℕ) → document bytes ≡ Ok (record { reading = reading; image = drop place bytes })
     → image ≡ drop place bytes → document bytes ≡ Ok (record { reading = reading; image = image })
 document_is reading image bytes place is from = rw from is
+
+-- the same of whatever an input is read as
+pub read_as : (read : Result Document Refusal) (reading : Reading) (image rest : List ℕ) → read ≡ Ok (record { reading = reading; image = rest }) → image ≡ rest
+    → read ≡ Ok (record { reading = reading; image = image })
+read_as read reading image rest is same = rw same is
 
 -- one machine was brought up
 one_left : (old new : List World) (world : World) → new ≡ old ++ world ∷ [] → old ≡ [] → new ≡ world ∷ []
@@ -180,23 +185,38 @@ document_short input limit within is =
     let test : nat_lt (format_of input).input (length input) ≡ false = grind (arith, nat_tests) in
     after_short (outcome input) input limit (rw test at is)
 
+pair_after_short : (read : Outcome) (input : List ℕ) (limit : ℕ) → pair_after read input ≡ Err (TooLong limit) → ⊥
+pair_after_short (Refuses line kind) input limit is = cc
+pair_after_short (Reads reading place) input limit is =
+    let given : ℕ = length input - place in
+    let both : ℕ = 2 * reading.image in
+    no_image (nat_lt given both) (nat_lt both given) given both (given - both) limit
+    (record { reading = reading; image = drop place input }) is
+
+pair_short : (input : List ℕ) (limit : ℕ) → length input ≤ 269484032 → document_pair input ≡ Err (TooLong limit) → ⊥
+unfolding document_pair
+pair_short input limit within is =
+    let test : nat_lt 269484032 (length input) ≡ false = grind (arith, nat_tests) in
+    pair_after_short (outcome input) input limit (rw test at is)
+
 of_refused : (command : Command) (read : Result Document Refusal) (refusal : Refusal) → of_document command read ≡ refused refusal → read ≡ Err refusal
 of_refused command (Ok found) refusal is = absurd (let none : found ∷ [] ≡ [] = ap (λ (answer : Answer). answer.machines) is in let no : ⊥ = cc in no)
 of_refused command (Err other) refusal is =
     let same : Err (Refused other) ≡ Err (Refused refusal) = ap (λ (answer : Answer). answer.output) is in
     let one : other ≡ refusal = cc in ap Err one
 
-answer_short : (command : Command) (bytes : List ℕ) (limit : ℕ) → length bytes ≤ (format_of bytes).input → answer_of command bytes ≡ refused (TooLong limit) → ⊥
+answer_short : (command : Command) (bytes : List ℕ) (limit : ℕ) → length bytes ≤ limit_of command bytes → answer_of command bytes ≡ refused (TooLong limit) → ⊥
 answer_short (Ask query) bytes limit within is = document_short bytes limit within (of_refused (Ask query) (document bytes) (TooLong limit) is)
 answer_short Patch bytes limit within is = document_short bytes limit within (of_refused Patch (document bytes) (TooLong limit) is)
 answer_short (Jump table count) bytes limit within is = document_short bytes limit within (of_refused (Jump table count) (document bytes) (TooLong limit) is)
 answer_short Elf bytes limit within is = document_short bytes limit within (of_refused Elf (document bytes) (TooLong limit) is)
+answer_short Audit bytes limit within is = pair_short bytes limit within (of_refused Audit (document_pair bytes) (TooLong limit) is)
 answer_short (Demo seed cores) bytes limit within is =
     let no = of_refused (Demo seed cores) (Ok (generated_document seed cores)) (TooLong limit) is in absurd (let never : ⊥ = cc in never)
 
 -- a command that reads its input whole, and answers it
 pub performed : (command : Command) (input out : Change) (bytes slice : List ℕ) (machines : List World) (ending : Ending) → AreCoresGiven (Some command)
-    → IsRead command input bytes → slice ≡ bytes → length bytes ≤ (format_of bytes).input → Ends command (answer_of command slice) out machines ending
+    → IsRead command input bytes → slice ≡ bytes → length bytes ≤ limit_of command bytes → Ends command (answer_of command slice) out machines ending
     → GivesAtMost input.old input.new (most_read (Some command)) → (reads_input (Some command) ≡ false → Keeps input.old input.new)
     → Performs command input out machines ending
 performed command input out bytes slice machines ending given read same within ends at_most unread =

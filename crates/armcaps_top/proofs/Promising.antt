@@ -15,7 +15,7 @@ use Rattle.armcaps_top.specs.declared.commands.Command.{Command}
 use Rattle.armcaps_top.specs.declared.ending.Ending.{Ending}
 use Rattle.armcaps_top.specs.declared.ending.Ending.TheVariants.{Done, ReadFault, WriteFault, Memory, NoOutput}
 use Rattle.armcaps_top.specs.declared.reason.Reason.{Reason}
-use Rattle.armcaps_top.specs.declared.reason.Reason.TheVariants.{Usage, Refused, Panicked, NotPatched, NotRead, NotElf, NotLoaded, NotJumped}
+use Rattle.armcaps_top.specs.declared.reason.Reason.TheVariants.{Usage, Refused, Panicked, NotPatched, NotRead, NotElf, NotLoaded, NotJumped, Differs}
 use Rattle.armcaps_top.specs.declared.refusal.Refusal.{Refusal}
 use Rattle.armcaps_top.proofs.Fitting.{Fits, fits, read_ends, stream_ends}
 use Rattle.armcaps_top.proofs.Performing.{keeps}
@@ -107,6 +107,7 @@ no_machine command answer input out machines (NoOutput (NotRead refused)) so fit
 no_machine command answer input out machines (NoOutput (NotJumped refused)) so fit left none usage low high = absurd (omega (arith, high))
 no_machine command answer input out machines (NoOutput (NotElf kind)) so fit left none usage low high = absurd (omega (arith, high))
 no_machine command answer input out machines (NoOutput (NotLoaded entry kind)) so fit left none usage low high = absurd (omega (arith, high))
+no_machine command answer input out machines (NoOutput (Differs place)) so fit left none usage low high = absurd (omega (arith, high))
 
 status_fits : (command : Command) (answer : Answer) (input out : Change) (ending : Ending) → EndsSo (Some command) answer input out ending → Fits (Some command) answer
     → can_end (Some command) (status_of ending) ≡ true

@@ -32,7 +32,7 @@ use Rattle.armcaps_top.specs.declared.commands.mrs.ReadRefused.TheVariants.{NotA
 use Rattle.armcaps_top.specs.declared.ending.Ending.{Ending}
 use Rattle.armcaps_top.specs.declared.ending.Ending.TheVariants.{Done, ReadFault, WriteFault, Memory, NoOutput}
 use Rattle.armcaps_top.specs.declared.reason.Reason.{Reason}
-use Rattle.armcaps_top.specs.declared.reason.Reason.TheVariants.{Usage, Refused, Panicked, NotRead, NotPatched, NotElf, NotLoaded, NotJumped}
+use Rattle.armcaps_top.specs.declared.reason.Reason.TheVariants.{Usage, Refused, Panicked, NotRead, NotPatched, NotElf, NotLoaded, NotJumped, Differs}
 use Rattle.armcaps_top.specs.declared.refusal.Refusal.{Refusal}
 use Rattle.armcaps_top.specs.declared.refusal.Refusal.TheVariants as refusal
 
@@ -166,6 +166,7 @@ reason_short (NotRead why) = grind (arith, length-append, read_refused_short)
 reason_short (NotElf kind) = grind (arith, length-append, decimal_short, elf_word_short)
 reason_short (NotLoaded entry kind) = grind (arith, length-append, decimal_short, elf_word_short)
 reason_short (NotJumped why) = grind (arith, length-append, labels_refused_short)
+reason_short (Differs place) = grind (arith, length-append, decimal_short)
 
 ending_short : (ending : Ending) → length (ending_text ending) ≤ 240
 unfolding ending_text

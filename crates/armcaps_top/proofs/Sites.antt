@@ -1,10 +1,10 @@
 -- A byte that differs in a patched image lies in a selected site.
-use Rattle.std.proofs.Common.{◌≡◌, ◌≢◌, ◌+◌, ◌<◌, ◌∷◌, ℕ, Bool, List, None, Option, Some, [], arith, cond, false, get_or, inl, inr, length, map, refl, suc, sym, true, zero, zero-add, ap, ◌∙◌}
-use Rattle.std.specs.List.{Contains, range_with_len}
+use Rattle.std.proofs.Common.{◌≡◌, ◌≢◌, ◌∷◌, ℕ, Bool, List, None, Option, Some, [], arith, get_or, inl, inr, length, refl, suc, sym, true, zero-add, ap, ◌∙◌}
+use Rattle.std.specs.List.{Contains}
 use Rattle.std.specs.Option.{option_map, option_map_or, option_or}
 use Rattle.std.specs.Prelude.{Ok}
 use Rattle.std.proofs.lemmas.Bool.{cases_Bool, cases_lt}
-use Rattle.std.proofs.lemmas.List.{get_or_default, get_or_past}
+use Rattle.std.proofs.lemmas.List.{get_or_past}
 use Rattle.std.proofs.lemmas.List.FromFn.{get_or-map-range_with_len, length-map-range_with_len}
 use Rattle.armcaps_alt.specs.declared.table_entry.Entry.{Entry}
 use Rattle.armcaps_alt.specs.declared.table_place.Layout.{Layout}

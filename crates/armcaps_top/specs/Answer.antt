@@ -9,15 +9,16 @@ use Rattle.armcaps_boot.specs.Findings.{findings_after}
 use Rattle.armcaps_boot.specs.declared.halt.Halt.{Halt}
 use Rattle.armcaps_mrs.specs.Reading.{user_read}
 use Rattle.armcaps_report.specs.Report.{report_of}
+use Rattle.armcaps_top.specs.Audit.{audit_output}
 use Rattle.armcaps_top.specs.Demo.{demo_output, generated_document}
-use Rattle.armcaps_top.specs.Document.{Document, document}
+use Rattle.armcaps_top.specs.Document.{Document, document, document_pair}
 use Rattle.armcaps_top.specs.Jump.{jump_output}
 use Rattle.armcaps_top.specs.Elf.{elf_output}
 use Rattle.armcaps_top.specs.Mrs.{read_output}
 use Rattle.armcaps_top.specs.Patch.{patch_output}
 use Rattle.armcaps_top.specs.Trace.{trace_of}
 use Rattle.armcaps_top.specs.declared.commands.Command.{Command}
-use Rattle.armcaps_top.specs.declared.commands.Command.TheVariants.{Ask, Patch, Elf, Jump, Demo}
+use Rattle.armcaps_top.specs.declared.commands.Command.TheVariants.{Ask, Patch, Elf, Jump, Audit, Demo}
 use Rattle.armcaps_top.specs.declared.commands.Query.{Query}
 use Rattle.armcaps_top.specs.declared.commands.Query.TheVariants.{Report, Mrs, Trace}
 use Rattle.armcaps_top.specs.declared.commands.mrs.ReadRefused.{ReadRefused}
@@ -56,6 +57,7 @@ output_in Patch found = patch_output found.reading.board (steps_of found) found.
 output_in (Jump table count) found =
     jump_output table count found.reading.board (steps_of found) found.reading found.image
 output_in Elf found = elf_output found.reading.board (steps_of found) found.reading found.image
+output_in Audit found = audit_output found.reading.board (steps_of found) found.reading found.image
 output_in (Demo seed cores) found =
     Ok (demo_output seed cores found.reading.board (steps_of found) found.reading found.image)
 
@@ -86,6 +88,7 @@ answer_of (Ask query) input = of_document (Ask query) (document input)
 answer_of Patch input = of_document Patch (document input)
 answer_of (Jump table count) input = of_document (Jump table count) (document input)
 answer_of Elf input = of_document Elf (document input)
+answer_of Audit input = of_document Audit (document_pair input)
 answer_of (Demo seed cores) input = of_document (Demo seed cores) (Ok (generated_document seed cores))
 
 -- what words come to: those that are no form of a command bring no machine up

@@ -5,7 +5,7 @@ use Rattle.std.specs.Str.{bytes_eq}
 use Rattle.armcaps_lex.specs.Digits.{digits_number}
 use Rattle.armcaps_text.specs.Numbers.{number_up_to}
 use Rattle.armcaps_top.specs.declared.commands.Command.{Command}
-use Rattle.armcaps_top.specs.declared.commands.Command.TheVariants.{Ask, Patch, Elf, Jump, Demo}
+use Rattle.armcaps_top.specs.declared.commands.Command.TheVariants.{Ask, Patch, Elf, Jump, Audit, Demo}
 use Rattle.armcaps_top.specs.declared.commands.Query.TheVariants.{Report, Mrs, Trace}
 
 -- the number of a core: 1 to 9 decimal digits
@@ -60,7 +60,8 @@ command_named name =
     if bytes_eq name (codes "report") then Some (Ask Report)
     else if bytes_eq name (codes "patch") then Some Patch
     else if bytes_eq name (codes "trace") then Some (Ask Trace)
-    else if bytes_eq name (codes "elf") then Some Elf else None
+    else if bytes_eq name (codes "elf") then Some Elf
+    else if bytes_eq name (codes "audit") then Some Audit else None
 
 -- the command of a name and two arguments
 unfoldable pub command_of_two : List ℕ → List ℕ → List ℕ → Option Command
@@ -70,8 +71,8 @@ command_of_two name first second =
     else if bytes_eq name (codes "jump") then jump_of (number_up_to 536870912 first) (number_up_to 1048576 second)
     else None
 
--- the command that words are a form of: `report`, `patch`, `mrs CORE WORD`, `demo SEED CORES`, `trace`, `elf` or
--- `jump OFFSET COUNT`
+-- the command that words are a form of: `report`, `patch`, `mrs CORE WORD`, `demo SEED CORES`, `trace`, `elf`,
+-- `jump OFFSET COUNT` or `audit`
 unfoldable pub command_of : List (List ℕ) → Option Command
 command_of [] = None
 command_of (name ∷ []) = command_named name

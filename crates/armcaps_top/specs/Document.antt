@@ -1,5 +1,5 @@
 -- Which inputs are documents, and why another is none. The formats, limits and texts are this project's own.
-use Rattle.std.specs.Prelude.{ℕ, ◌-◌, ◌++◌, nat_lt, if◌then◌else◌, List, length, drop, codes, Option, Some, None, Result, Ok, Err}
+use Rattle.std.specs.Prelude.{ℕ, ◌-◌, ◌*◌, ◌++◌, nat_lt, if◌then◌else◌, List, length, drop, codes, Option, Some, None, Result, Ok, Err}
 use Rattle.std.specs.Fmt.{decimal}
 use Rattle.armcaps_text.specs.Document.{Reading, Outcome, Reads, Refuses, outcome}
 use Rattle.armcaps_text.specs.Formats.{format_of}
@@ -8,7 +8,8 @@ use Rattle.armcaps_text.specs.declared.kind.TextRefused.TheVariants as refused
 use Rattle.armcaps_top.specs.declared.refusal.Refusal.{Refusal}
 use Rattle.armcaps_top.specs.declared.refusal.Refusal.TheVariants.{Line, TooLong, ImageShort, Trailing}
 
--- what a document says: what its text reads as, and the bytes of the image after the text
+-- what a document says: what its text reads as, and the bytes after the text: its image, and where the input is a
+-- document and another image, that one behind it
 pub record Document : Type 0 where
   pub reading : Reading
   pub image : List ℕ
@@ -41,6 +42,24 @@ unfoldable pub document : List ℕ → Result Document Refusal
 document input =
     let limit = (format_of input).input in
     if nat_lt limit (length input) then Err (TooLong limit) else document_after (outcome input) input
+
+-- the document of a text that reads so up to this place, and another image of the same length
+abbrev pub with_two_images : Reading → ℕ → List ℕ → Result Document Refusal
+with_two_images reading place input =
+    unless_refused (image_refusal (2 * reading.image) (length input - place))
+    (record { reading = reading; image = drop place input })
+
+-- of an input whose text comes to this
+abbrev pub pair_after : Outcome → List ℕ → Result Document Refusal
+pair_after (Refuses line kind) input = Err (Line line kind)
+pair_after (Reads reading place) input = with_two_images reading place input
+
+-- the document that an input is together with another image behind it, as long as the document's own, or why it is
+-- none: more bytes than the limit, which is one for both formats, a kind at a line of its text, or fewer or more bytes
+-- after the text than the two images have
+unfoldable pub document_pair : List ℕ → Result Document Refusal
+document_pair input =
+    if nat_lt 269484032 (length input) then Err (TooLong 269484032) else pair_after (outcome input) input
 
 -- the text of a refusal, as `line 7: kind 13 turn`
 unfoldable pub refused_text : Refusal → List ℕ

@@ -1,5 +1,5 @@
 -- What `elf` writes: the ELF file of a kernel with its selected alternatives, or why it writes none.
-use Rattle.std.specs.Prelude.{◌==◌, ◌&&◌, ◌-◌, ◌∷◌, [], ◌++◌, ℕ, ℤ, Bool, List, Option, None, Some, Result, codes, find, if◌then◌else◌, is_some, length, not, slice_get, unwrap_or}
+use Rattle.std.specs.Prelude.{◌==◌, ◌&&◌, ◌∷◌, [], ◌++◌, ℕ, ℤ, Bool, List, Option, None, Some, Result, codes, find, if◌then◌else◌, is_some, not, slice_get, unwrap_or}
 use Rattle.std.specs.Fmt.{decimal}
 use Rattle.std.specs.List.{range_with_len}
 use Rattle.std.specs.Option.{option_and_then, option_map, option_or}
@@ -7,7 +7,6 @@ use Rattle.armcaps_alt.specs.declared.table_entry.Entry.{Entry}
 use Rattle.armcaps_alt.specs.declared.table_place.Layout.{Layout}
 use Rattle.armcaps_alt.specs.Entries.{Features, entry_at, is_selected}
 use Rattle.armcaps_alt.specs.Patched.{patched_image}
-use Rattle.armcaps_alt.specs.Refusals.{first_refusal}
 use Rattle.armcaps_board.specs.declared.event.Event.{Event}
 use Rattle.armcaps_board.specs.Board.{Board}
 use Rattle.armcaps_boot.specs.Findings.{findings_after}
@@ -57,8 +56,8 @@ abbrev pub is_loaded : List Section → ℤ → ℕ → Bool
 is_loaded sections place count =
     is_within (span_of sections) place count && are_loaded sections (as_place place) count
 
--- 11 site and 12 replacement, the least that holds of an entry: a byte of its site, or of a replacement that no callback
--- makes, isn't loaded
+-- 11 site and 12 replacement, the least that holds of an entry: a byte of its site, or of a replacement that no
+-- callback makes, isn't loaded
 abbrev pub unloaded_kind : List Section → Entry → Option ℕ
 unloaded_kind sections entry =
     if not (is_loaded sections entry.site entry.orig_len) then Some 11

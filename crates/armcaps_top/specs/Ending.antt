@@ -11,7 +11,7 @@ use Rattle.armcaps_top.specs.Patch.{entry_text}
 use Rattle.armcaps_top.specs.declared.ending.Ending.{Ending}
 use Rattle.armcaps_top.specs.declared.ending.Ending.TheVariants.{Done, ReadFault, WriteFault, Memory, NoOutput}
 use Rattle.armcaps_top.specs.declared.reason.Reason.{Reason}
-use Rattle.armcaps_top.specs.declared.reason.Reason.TheVariants.{Usage, Refused, Panicked, NotRead, NotPatched, NotElf, NotLoaded, NotJumped}
+use Rattle.armcaps_top.specs.declared.reason.Reason.TheVariants.{Usage, Refused, Panicked, NotRead, NotPatched, NotElf, NotLoaded, NotJumped, Differs}
 
 -- the status of a reason why nothing is written
 abbrev pub reason_status : Reason → ℕ
@@ -23,6 +23,7 @@ reason_status (NotRead refused) = 9
 reason_status (NotJumped refused) = 11
 reason_status (NotElf kind) = 10
 reason_status (NotLoaded entry kind) = 10
+reason_status (Differs place) = 12
 
 -- the status that the process ends with
 abbrev pub status_of : Ending → ℕ
@@ -44,7 +45,7 @@ halt_text halt = codes "core " ++ decimal halt.core ++ codes ": " ++ cause_text 
 -- the text of a reason
 unfoldable pub reason_text : Reason → List ℕ
 reason_text Usage =
-    codes "usage: armcaps report | patch | mrs CORE WORD | demo SEED CORES | trace | elf | jump OFFSET COUNT"
+    codes "usage: armcaps report | patch | mrs CORE WORD | demo SEED CORES | trace | elf | jump OFFSET COUNT | audit"
 reason_text (Refused refusal) = refused_text refusal
 reason_text (Panicked halt) = codes "panic: " ++ halt_text halt
 reason_text (NotPatched entry kind) = codes "patch: " ++ entry_text entry kind
@@ -52,6 +53,7 @@ reason_text (NotRead refused) = codes "mrs: " ++ read_refused_text refused
 reason_text (NotJumped refused) = codes "jump: " ++ labels_refused_text refused
 reason_text (NotElf kind) = codes "elf: " ++ elf_kind_text kind
 reason_text (NotLoaded entry kind) = codes "elf: " ++ elf_entry_text entry kind
+reason_text (Differs place) = codes "audit: byte " ++ decimal place
 
 -- the text of an ending, which follows `armcaps: `
 unfoldable pub ending_text : Ending → List ℕ

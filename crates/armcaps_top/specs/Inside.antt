@@ -1,5 +1,5 @@
 -- What the parts of a run promise each other.
-use Rattle.std.specs.Prelude.{◌≡◌, ◌≢◌, ◌+◌, ◌*◌, ◌^◌, ℕ, ◌≤◌, true, false, List, [], length, ◌∷◌, ◌++◌, Option, Some, None, Result, Ok, Err, IfSome, IfOk, IfErr}
+use Rattle.std.specs.Prelude.{◌≡◌, ◌≢◌, ◌+◌, ◌*◌, ◌^◌, ℕ, ◌<◌, ◌≤◌, true, false, List, [], length, ◌∷◌, ◌++◌, Option, Some, None, Result, Ok, Err, IfSome, IfOk, IfErr}
 use Rattle.armcaps_alt.specs.Entries.{Features, selected_of}
 use Rattle.armcaps_alt.specs.Refusals.{first_refusal}
 use Rattle.armcaps_alt.specs.declared.table_place.Layout.{Layout}
@@ -15,13 +15,14 @@ use Rattle.armcaps_io.specs.Streams.{GivesAtMost, GivesCount, Keeps}
 use Rattle.armcaps_patch.specs.Counting.{words_of_sites}
 use Rattle.armcaps_report.specs.Settled.{AreSettled}
 use Rattle.armcaps_text.specs.Document.{Reading}
+use Rattle.armcaps_text.specs.Formats.{format_of}
 use Rattle.armcaps_text.specs.Sound.{IsSound}
 use Rattle.armcaps_top.specs.Answer.{Answer, answer_of, of_document, unless_stopped}
 use Rattle.armcaps_top.specs.Demo.{words_covered}
-use Rattle.armcaps_top.specs.Document.{document}
+use Rattle.armcaps_top.specs.Document.{Document, document}
 use Rattle.armcaps_top.specs.Run.{AreBytesOf, AreMachinesOf, AreSafe, Change, EndsSo, IsReadWhole, ReadFails, most_read, reads_input}
 use Rattle.armcaps_top.specs.declared.commands.Command.{Command}
-use Rattle.armcaps_top.specs.declared.commands.Command.TheVariants.{Demo}
+use Rattle.armcaps_top.specs.declared.commands.Command.TheVariants.{Audit, Demo}
 use Rattle.armcaps_top.specs.declared.ending.Ending.{Ending}
 use Rattle.armcaps_top.specs.declared.ending.Ending.TheVariants.{Done, ReadFault, WriteFault, Memory, NoOutput}
 use Rattle.armcaps_top.specs.declared.reason.Reason.{Reason}
@@ -40,17 +41,35 @@ IsFailure before now ReadFault = Rose before now
 IsFailure before now Memory = Unit {0}
 IsFailure before now _ = ⊥
 
--- these bytes are refused so
-abbrev pub IsRefusedSo : List ℕ → Ending → Type 0
-IsRefusedSo bytes (NoOutput (Refused refusal)) = document bytes ≡ Err refusal
-IsRefusedSo bytes Memory = Unit {0}
-IsRefusedSo bytes _ = ⊥
+-- what an input is read as refuses it so
+abbrev pub IsRefusedSo : Result Document Refusal → Ending → Type 0
+IsRefusedSo read (NoOutput (Refused refusal)) = read ≡ Err refusal
+IsRefusedSo read Memory = Unit {0}
+IsRefusedSo read _ = ⊥
 
 -- the bytes of an input, which are those that it tells, are no document
 pub record IsNoDocument (input : Option (List ℕ)) (refusal : Refusal) : Type 0 where
   pub bytes : List ℕ
   pub told : IfSome input (λ told. bytes ≡ told)
   pub is : document bytes ≡ Err refusal
+
+-- the bytes of an input, which are those that it tells, are more than a limit
+pub record IsLonger (input : Option (List ℕ)) (limit : ℕ) : Type 0 where
+  pub bytes : List ℕ
+  pub told : IfSome input (λ told. bytes ≡ told)
+  pub longer : limit < length bytes
+
+-- why an input that has a limit was not read whole
+abbrev pub IsUnreadPast : ℕ → Option (List ℕ) → ℕ → ℕ → Ending → Type 0
+IsUnreadPast limit input before now (NoOutput (Refused (TooLong most))) = (most ≡ limit) × IsLonger input limit
+IsUnreadPast limit input before now ReadFault = Rose before now
+IsUnreadPast limit input before now Memory = Unit {0}
+IsUnreadPast limit input before now _ = ⊥
+
+-- the most bytes of an input that a command works on, by the input's format, or under `audit` in both formats
+abbrev pub limit_of : Command → List ℕ → ℕ
+limit_of Audit input = 269484032
+limit_of _ input = (format_of input).input
 
 -- why an input was not read whole
 abbrev pub IsUnread : Option (List ℕ) → ℕ → ℕ → Ending → Type 0

@@ -5,6 +5,7 @@ pub mod Trace
 pub mod Patch
 pub mod Elf
 pub mod Jump
+pub mod Audit
 pub mod Demo
 pub mod Answer
 pub mod Laws

@@ -7,6 +7,7 @@ ghost use Rattle.armcaps_top.specs.Commands.{cores_number, seed_number};
 ghost use Rattle.armcaps_top.specs.Inside.{AreCoresGiven};
 
 pub mod ask;
+pub mod audit;
 pub mod demo;
 pub mod elf;
 pub mod jump;
@@ -41,6 +42,8 @@ pub enum Command {
     Jump { table: u32, count: u32 },
     /// The ELF file, patched for the machine.
     Elf,
+    /// Whether a second image is the first one, patched for the machine.
+    Audit,
     /// What comes of a machine with so many cores and of its image, both made from a seed.
     Demo { seed: u32, cores: u32 },
 }
@@ -72,6 +75,8 @@ fn command_named(name: &str) -> Option<Command>
         Some(Command::Ask(Query::Trace))
     } else if name == "elf" {
         Some(Command::Elf)
+    } else if name == "audit" {
+        Some(Command::Audit)
     } else {
         None
     }

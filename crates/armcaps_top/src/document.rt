@@ -1,10 +1,12 @@
 //! What an input is.
 
-ghost use Rattle.std.specs.Prelude.{◌≡◌, ◌≤◌, ◌+◌, IfOk, IfErr, Ok, drop, length};
+ghost use Rattle.std.specs.Prelude.{◌≡◌, ◌≤◌, ◌+◌, ◌*◌, IfOk, IfErr, Ok, drop, length};
+ghost use Rattle.std.specs.List.{All};
+ghost use Rattle.armcaps_alt.specs.Names.{IsKnown};
 ghost use Rattle.armcaps_text.specs.Document.{reading_of};
 ghost use Rattle.armcaps_text.specs.Formats.{format_of};
 ghost use Rattle.armcaps_text.specs.Sound.{IsSound};
-ghost use Rattle.armcaps_top.specs.Document.{document, image_refusal};
+ghost use Rattle.armcaps_top.specs.Document.{document, document_pair, image_refusal};
 ghost use Rattle.armcaps_top.specs.Inside.{IsRefusedSo};
 
 use crate::ending::Ending;
@@ -39,7 +41,7 @@ pub fn machine_of(alloc: Global, bytes: &[u8]) -> Result<(Machine, usize), Endin
         ≡ Ok (record { reading = reading_of read.0; image = drop read.1 bytes.now })) }
     ensures sound { IfOk result (λ read. IsSound (reading_of read.0)) }
     ensures whole { IfOk result (λ read. read.1 + read.0.image ≡ length bytes.now) }
-    ensures refused { IfErr result (IsRefusedSo bytes.now) }
+    ensures refused { IfErr result (IsRefusedSo (document bytes.now)) }
 {
     let (machine, place) = match Machine::read(alloc, bytes) {
         Ok(read) => read,
@@ -49,6 +51,32 @@ pub fn machine_of(alloc: Global, bytes: &[u8]) -> Result<(Machine, usize), Endin
         Err(TextRefused::Memory) => return Err(Ending::Memory),
     };
     match image_refusal(machine.image, bytes.len() - place) {
+        None => Ok((machine, place)),
+        Some(refusal) => Err(Ending::NoOutput(Reason::Refused(refusal))),
+    }
+}
+
+/// The machine of a document that another image follows, as long as the document's own, and the place where the two
+/// images begin, or else why the input is refused. It has at most 269,484,032 bytes.
+#[tactic(auto, unfolding(crate::specs::Document::document_pair), using(crate::proofs::Images::image_whole,
+    crate::proofs::KnownNumbers::numbers_are_known))]
+pub fn machine_of_pair(alloc: Global, bytes: &[u8]) -> Result<(Machine, usize), Ending>
+    requires { length bytes.now ≤ 269484032 }
+    ensures document { IfOk result (λ read. document_pair bytes.now
+        ≡ Ok (record { reading = reading_of read.0; image = drop read.1 bytes.now })) }
+    ensures sound { IfOk result (λ read. IsSound (reading_of read.0)) }
+    ensures known { IfOk result (λ read. All (λ e. IsKnown e.1) read.0.names.numbers) }
+    ensures whole { IfOk result (λ read. read.1 + 2 * read.0.image ≡ length bytes.now) }
+    ensures refused { IfErr result (IsRefusedSo (document_pair bytes.now)) }
+{
+    let (machine, place) = match Machine::read(alloc, bytes) {
+        Ok(read) => read,
+        Err(TextRefused::Line { line, kind }) => {
+            return Err(Ending::NoOutput(Reason::Refused(Refusal::Line { line, kind })));
+        }
+        Err(TextRefused::Memory) => return Err(Ending::Memory),
+    };
+    match image_refusal(2 * machine.image, bytes.len() - place) {
         None => Ok((machine, place)),
         Some(refusal) => Err(Ending::NoOutput(Reason::Refused(refusal))),
     }

@@ -50,9 +50,9 @@ pub fn document_fields_hold()
     generated_machines_are_sound();
 }
 
-/// Where `jump` writes something of a document, that is as long as the document's patched image; the word at each code
-/// place is the branch to its target where key and branch flag of the last entry there differ, and else NOP, entries and
-/// keys being those of the patched image; and every other byte is the patched image's.
+/// Where `jump` writes something of a document, that is as long as the document's patched image; the word at each
+/// code place is the branch to its target where key and branch flag of the last entry there differ, and else NOP,
+/// entries and keys being those of the patched image; and every other byte is the patched image's.
 pub fn labels_choose_words()
     ensures { (found : Document) (table count : ℕ) (text : List ℕ)
         → output_in (Command.Jump table count) found ≡ Ok text → IsLabelled found table count text }

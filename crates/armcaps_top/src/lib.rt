@@ -1,6 +1,7 @@
 //! The top call of armcaps: words and a machine text in, what the command writes of it out.
 #![tactic(auto)]
 
+pub mod audit_laws;
 mod bringing;
 mod commands;
 mod document;

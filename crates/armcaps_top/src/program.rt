@@ -1,14 +1,14 @@
 //! The program's one call.
 
 ghost use Rattle.std.specs.Prelude.{◌≡◌, ◌≤◌, [], Some, false, length, map, string_bytes};
-ghost use Rattle.armcaps_text.specs.Formats.{format_of};
 ghost use Rattle.armcaps_top.specs.Commands.{command_of};
 ghost use Rattle.armcaps_top.specs.Answer.{answer_of};
-ghost use Rattle.armcaps_top.specs.Inside.{AreCoresGiven, Ends, Performs};
+ghost use Rattle.armcaps_top.specs.Inside.{AreCoresGiven, Ends, Performs, limit_of};
 ghost use Rattle.armcaps_top.specs.Run.{Promises, change, reads_input};
 
 use crate::commands::Command;
 use crate::commands::ask::ask;
+use crate::commands::audit::audit;
 use crate::commands::demo::demo;
 use crate::commands::elf::elf;
 use crate::commands::jump::jump;
@@ -32,7 +32,7 @@ fn answer<O: Sink>(
 ) -> Ending
     requires cores { AreCoresGiven (Some command) }
     requires none { machines.old.items ≡ [] }
-    requires within { length bytes.now ≤ (format_of bytes.now).input }
+    requires within { length bytes.now ≤ limit_of command bytes.now }
     ensures { Ends command (answer_of command bytes.now)
         (change O.held O.faults out.old out.new) machines.new.items result }
 {
@@ -40,6 +40,7 @@ fn answer<O: Sink>(
         Command::Ask(query) => write_text(out, ask(alloc, query, bytes, machines)),
         Command::Patch => patch(alloc, bytes, out, machines),
         Command::Elf => elf(alloc, bytes, out, machines),
+        Command::Audit => write_text(out, audit(alloc, bytes, machines)),
         Command::Jump { table, count } => jump(alloc, table, count, bytes, out, machines),
         Command::Demo { seed, cores } => write_text(out, demo(alloc, seed, cores, machines)),
     }
@@ -66,19 +67,21 @@ fn perform<S: Source, O: Sink>(
     }
 }
 
-/// Runs the program: `words` is the command line without the program's name. Where they are `report`, `patch`,
-/// `mrs CORE WORD`, `trace`, `elf` or `jump OFFSET COUNT`, reads a document from `input`, makes its steps and writes to
-/// `out` the report, the image patched for the machine, what a program on the core reads by the instruction, the trace of
-/// the steps, the ELF file that the image is, patched for the machine, or the patched image with its jump labels applied,
-/// which the table of COUNT entries at OFFSET has. Where they are `demo SEED CORES`, reads nothing, makes a machine and its
-/// image from the seed, and writes what comes of both: only the statuses 0, 5 and 6 come. Every other status than 0 has a
-/// line on `err`. `machines` has to be empty, and gets the machine that was brought up: one in the statuses 0, 5 and 7 to
-/// 11, and none in 2 to 4. Of no input more than 537,919,489 bytes are read.
+/// Runs the program: `words` is the command line without the program's name. Where they are `report`, `patch`, `mrs
+/// CORE WORD`, `trace`, `elf`, `jump OFFSET COUNT` or `audit`, reads a document from `input`, makes its steps and writes
+/// to `out` the report, the image patched for the machine, what a program on the core reads by the instruction, the
+/// trace of the steps, the ELF file that the image is, patched for the machine, the patched image with its jump
+/// labels applied, which the table of COUNT entries at OFFSET has, or whether a second image behind the first is the
+/// patched one. Where they are `demo SEED CORES`, reads nothing, makes a machine and its image from the seed, and
+/// writes what comes of both: only the statuses 0, 5 and 6 come.
+/// Every other status than 0 has a line on `err`. `machines` has to be empty, and gets the machine that was brought
+/// up: one in the statuses 0, 5 and 7 to 12, and none in 2 to 4. Of no input more than 537,919,489 bytes are read.
 ///
 /// - 0: done.
 /// - 2: the words are no form. They are judged without memory, and nothing is read.
 /// - 3: the input is no document: a line of its text is refused, it has more bytes than its format allows (135,266,304,
-///   or 537,919,488 in format 2), or fewer or more bytes follow the text than the image has. Of an input that is too
+///   or 537,919,488 in format 2; under `audit` 269,484,032 in both), or fewer or more bytes follow the text than the
+///   image has, or under `audit` than two images have. Of an input that is too
 ///   long exactly one byte more than the limit is read.
 /// - 4: `input` failed.
 /// - 5: `out` failed, and has a first part of the output.
@@ -88,6 +91,7 @@ fn perform<S: Source, O: Sink>(
 /// - 9: the core of `mrs` is not admitted, or its word reads no register.
 /// - 10: the image of `elf` is refused as an ELF file of a kernel, or an entry that is selected isn't loaded.
 /// - 11: the table of jump labels does not lie within the image, or an entry of it is refused.
+/// - 12: the second image of `audit` is not the patched one.
 pub fn run<S: Source, O: Sink, E: Sink>(
     alloc: Global,
     words: &[String],

@@ -4,7 +4,7 @@ ghost use Rattle.std.specs.Prelude.{◌≡◌, ◌≤◌, ◌<◌, ◌+◌, ◌^
 ghost use Rattle.armcaps_io.specs.Causes.{Rose};
 ghost use Rattle.armcaps_io.specs.Streams.{GivesAll, GivesAtMost, GivesCount, IsAtEnd, Moves};
 ghost use Rattle.armcaps_text.specs.Formats.{format_of};
-ghost use Rattle.armcaps_top.specs.Inside.{IsFailure, IsNotRead, IsRead, IsUnread};
+ghost use Rattle.armcaps_top.specs.Inside.{IsFailure, IsNotRead, IsRead, IsUnread, IsUnreadPast, limit_of};
 ghost use Rattle.armcaps_top.specs.Run.{change, most_read, reads_input};
 
 use crate::commands::Command;
@@ -64,6 +64,26 @@ fn read_input<S: Source>(alloc: Global, source: &mut S) -> Result<Vec<u8>, Endin
     }
 }
 
+// All bytes of an input that has no more than a limit, or else why it was not read. Of a longer one one byte more than
+// the limit is read.
+fn read_within<S: Source>(alloc: Global, source: &mut S, limit: usize) -> Result<Vec<u8>, Ending>
+    requires { limit < 2 ^ 32 }
+    ensures whole { IfOk result (λ bytes. GivesAll (S.left source.old) (S.left source.new) bytes.items) }
+    ensures within { IfOk result (λ bytes. length bytes.items ≤ limit) }
+    ensures unread { IfErr result (IsUnreadPast limit (S.left source.old) (S.faults source.old) (S.faults source.new)) }
+    ensures one_more { (most : ℕ) → result ≡ Err (Ending.NoOutput (Reason.Refused (Refusal.TooLong most))) →
+        GivesCount (S.left source.old) (S.left source.new) (most + 1) }
+    ensures at_most { GivesAtMost (S.left source.old) (S.left source.new) (limit + 1) }
+{
+    let mut bytes = Vec::new(alloc);
+    let ended = read_past(source, &mut bytes, limit)?;
+    if ended {
+        Ok(bytes)
+    } else {
+        Err(Ending::NoOutput(Reason::Refused(Refusal::TooLong { limit })))
+    }
+}
+
 /// The input of a command that reads it, up to its limit, and nothing for `demo`, or else why it was not read.
 pub fn read_for<S: Source>(
     alloc: Global,
@@ -71,7 +91,7 @@ pub fn read_for<S: Source>(
     source: &mut S,
 ) -> Result<Vec<u8>, Ending>
     ensures read { IfOk result (λ bytes. IsRead command (change S.left S.faults source.old source.new) bytes.items) }
-    ensures within { IfOk result (λ bytes. length bytes.items ≤ (format_of bytes.items).input) }
+    ensures within { IfOk result (λ bytes. length bytes.items ≤ limit_of command bytes.items) }
     ensures not_read { IfErr result (IsNotRead command (change S.left S.faults source.old source.new)) }
     ensures one_more { (limit : ℕ) → result ≡ Err (Ending.NoOutput (Reason.Refused (Refusal.TooLong limit))) →
         GivesCount (S.left source.old) (S.left source.new) (limit + 1) }
@@ -82,6 +102,7 @@ pub fn read_for<S: Source>(
         Command::Ask(_) | Command::Patch | Command::Elf | Command::Jump { .. } => {
             read_input(alloc, source)
         }
+        Command::Audit => read_within(alloc, source, 269_484_032),
         Command::Demo { .. } => Ok(Vec::new(alloc)),
     }
 }

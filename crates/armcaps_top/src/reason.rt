@@ -26,6 +26,8 @@ pub enum Reason {
     NotLoaded { entry: u32, kind: u8 },
     /// No jump labels are applied to the patched image.
     NotJumped(LabelsRefused),
+    /// The second image is not the patched one, and this byte of it is the first that differs.
+    Differs { place: u64 },
 }
 
 impl Reason {
@@ -44,6 +46,7 @@ impl Reason {
             Reason::NotRead(_) => 9,
             Reason::NotElf { .. } | Reason::NotLoaded { .. } => 10,
             Reason::NotJumped(_) => 11,
+            Reason::Differs { .. } => 12,
         }
     }
 }

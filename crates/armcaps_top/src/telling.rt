@@ -77,7 +77,7 @@ fn push_reason<T: Text>(text: &mut T, reason: Reason) -> Result<(), T::Error>
 {
     match reason {
         Reason::Usage => text.append(
-            "usage: armcaps report | patch | mrs CORE WORD | demo SEED CORES | trace | elf | jump OFFSET COUNT",
+            "usage: armcaps report | patch | mrs CORE WORD | demo SEED CORES | trace | elf | jump OFFSET COUNT | audit",
         ),
         Reason::Refused(refusal) => push_refusal(text, refusal),
         Reason::Panicked(halt) => push_panic(text, halt),
@@ -86,6 +86,7 @@ fn push_reason<T: Text>(text: &mut T, reason: Reason) -> Result<(), T::Error>
         Reason::NotElf { kind } => push_not_elf(text, kind),
         Reason::NotLoaded { entry, kind } => push_not_loaded(text, entry, kind),
         Reason::NotJumped(refused) => push_not_jumped(text, refused),
+        Reason::Differs { place } => push_after(text, "audit: byte ", place),
     }
 }
 

@@ -115,8 +115,8 @@ fn patched_and_labels<'a>(
     Ok((image, jumps))
 }
 
-/// Brings the machine of a document up, leaves it in `machines`, and writes the image, patched for the machine, with the
-/// jump labels of the table of so many entries at a place of it applied.
+/// Brings the machine of a document up, leaves it in `machines`, and writes the image, patched for the machine,
+/// with the jump labels of the table of so many entries at a place of it applied.
 pub fn jump<O: Sink>(
     alloc: Global,
     table: u32,

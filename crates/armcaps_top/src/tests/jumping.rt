@@ -7,9 +7,9 @@ use std::alloc::Global;
 use std::process::Abort;
 use std::test::Fail;
 
-/// Rows as those of patched images: lines after `finalise`, the words of the image that are not 0, and then for each
-/// command its status with the words that change, or with the line on the error stream. The table of most of them stands
-/// at 200, and its first entry has its code at 100, its target at 180 and its key at 300.
+/// Rows as those of patched images: lines after `finalise`, the words of the image that are not 0, and then for
+/// each command its status with the words that change, or with the line on the error stream. The table of most of
+/// them stands at 200, and its first entry has its code at 100, its target at 180 and its key at 300.
 const LABELS: &str = "== a key that is on
 image 4096
 200:ffffff00 204:ffffff7c 208:f8 300:1

@@ -3,7 +3,7 @@ use Rattle.armcaps_top.specs.Answer.{answer_of}
 use Rattle.armcaps_top.specs.Inside.{Ends}
 use Rattle.armcaps_top.specs.Run.{change}
 use Rattle.armcaps_top.specs.declared.commands.Command.{Command}
-use Rattle.armcaps_top.specs.declared.commands.Command.TheVariants.{Ask, Demo}
+use Rattle.armcaps_top.specs.declared.commands.Command.TheVariants.{Ask, Audit, Demo}
 use Rattle.armcaps_top.proofs.program.answer.Goals as goal
 
 pub returns-in-Ask : goal.returns-in-Ask
@@ -11,6 +11,12 @@ returns-in-Ask g c =
     subst (λ (command : Command). Ends command (answer_of command c.args.bytes.now) (change g.O.Sink.held g.O.Sink.faults c.args.out.now c.write_text.new.out)
     c.ask.new.machines.items c.write_text.result) (sym c.in-Ask.is)
     (c.write_text.ensures (Ask c.in-Ask.query) (answer_of (Ask c.in-Ask.query) c.args.bytes.now) c.ask.new.machines.items c.ask.ensures)
+
+pub returns-in-Audit : goal.returns-in-Audit
+returns-in-Audit g c =
+    subst (λ (command : Command). Ends command (answer_of command c.args.bytes.now) (change g.O.Sink.held g.O.Sink.faults c.args.out.now c.write_text-in-Audit.new.out)
+    c.audit.new.machines.items c.write_text-in-Audit.result) (sym c.in-Audit.is)
+    (c.write_text-in-Audit.ensures Audit (answer_of Audit c.args.bytes.now) c.audit.new.machines.items c.audit.ensures)
 
 pub returns-in-Demo : goal.returns-in-Demo
 returns-in-Demo g c =

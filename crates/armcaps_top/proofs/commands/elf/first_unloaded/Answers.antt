@@ -1,5 +1,5 @@
 -- One entry more, the first that isn't loaded, and none that isn't.
-use Rattle.std.proofs.Common.{◌≡◌, ℕ, List, None, Option, Some, ap, arith, inl, inr, refl, subst, sym, ◌∙◌}
+use Rattle.std.proofs.Common.{◌≡◌, ℕ, List, None, Some, ap, arith, inl, inr, refl, subst, sym, ◌∙◌}
 use Rattle.std.proofs.lemmas.Bool.{cases_lt}
 use Rattle.armcaps_alt.specs.declared.table_entry.Entry.{Entry}
 use Rattle.armcaps_alt.specs.declared.table_place.Layout.{Layout}
@@ -9,7 +9,6 @@ use Rattle.armcaps_elf.specs.Images.{entry_count, flat_image}
 use Rattle.armcaps_logic.proofs.Options.{none_from_never}
 use Rattle.armcaps_patch.specs.Features.{features_of}
 use Rattle.armcaps_top.specs.Elf.{table_in, unloaded_at, unloaded_of}
-use Rattle.armcaps_top.specs.declared.reason.Reason.{Reason}
 use Rattle.armcaps_top.proofs.Loaded.{none_first, one_first}
 use Rattle.armcaps_top.proofs.commands.elf.first_unloaded.Goals as goal
 

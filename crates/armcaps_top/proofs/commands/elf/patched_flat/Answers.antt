@@ -3,12 +3,12 @@ use Rattle.std.proofs.Common.{◌≡◌, ℕ, List, None, ap, length, subst, sym
 use Rattle.std.proofs.lemmas.List.FromFn.{length-map-range_with_len}
 use Rattle.armcaps_alt.specs.declared.table_place.Layout.{Layout}
 use Rattle.armcaps_alt.specs.Entries.{Features, selected_of}
-use Rattle.armcaps_alt.specs.Patched.{patched_byte, patched_image}
+use Rattle.armcaps_alt.specs.Patched.{patched_byte}
 use Rattle.armcaps_alt.specs.Refusals.{first_refusal}
 use Rattle.armcaps_elf.specs.Images.{flat_image}
 use Rattle.armcaps_logic.proofs.Options.{none_from_never}
 use Rattle.armcaps_patch.specs.Features.{features_of}
-use Rattle.armcaps_patch.specs.Kept.{Planned, StandsFor}
+use Rattle.armcaps_patch.specs.Kept.{StandsFor}
 use Rattle.armcaps_top.specs.Elf.{table_in}
 use Rattle.armcaps_top.specs.Inside.{IsWhy}
 use Rattle.armcaps_top.specs.Patch.{refused_entry}
