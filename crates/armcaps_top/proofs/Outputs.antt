@@ -18,7 +18,7 @@ use Rattle.armcaps_boot.specs.Causes.{stops_machine}
 use Rattle.armcaps_boot.specs.Facts.{Facts}
 use Rattle.armcaps_boot.specs.Findings.{findings_after, findings_of}
 use Rattle.armcaps_boot.specs.World.{World, state_at}
-use Rattle.armcaps_board.proofs.Bools.{and_left, and_right, not_true}
+use Rattle.std.proofs.lemmas.Bool.{and_parts, not-true}
 use Rattle.armcaps_board.proofs.Turns.{none_in_flight}
 use Rattle.armcaps_boot.proofs.Holding.{state_of-boot, state_of-other}
 use Rattle.armcaps_boot.proofs.ShorterHistories.{state_at-after}
@@ -52,7 +52,7 @@ settled_from (Some Finalise) None was begun fine = refl
 
 -- once all steps are made, none of which stopped the machine, finalisation was done
 pub is_finalised : (board : Board) (steps : List Event) (world : World) → IsAfter board steps world → is_complete steps ≡ true → world.final ≡ true
-is_finalised board steps world after complete = after.final ∙ and_left (is_final steps) (not (is_some_in_flight steps)) complete
+is_finalised board steps world after complete = after.final ∙ (and_parts (is_final steps) (not (is_some_in_flight steps)) complete).0
 
 -- and no core is on its way up
 pub are_settled : (board : Board) (steps : List Event) (world : World) → Facts world → IsAfter board steps world → is_complete steps ≡ true
@@ -69,7 +69,7 @@ are_settled board steps world facts after complete going = λ number. at number 
     by_boot number within true is = ap is_settled (state_of-boot board steps number is)
     by_boot number within false is =
         let other = state_of-other board steps number is in
-        let quiet = none_in_flight steps (not_true _ (and_right (is_final steps) (not (is_some_in_flight steps)) complete)) number in
+        let quiet = none_in_flight steps (not-true _ (and_parts (is_final steps) (not (is_some_in_flight steps)) complete).1) number in
         ap is_settled other ∙ settled_from (last_step number steps) (held_back board steps number) (past_from number steps) quiet
         (λ cause panicked. fine number cause (here number within ∙ other ∙ panicked))
 

@@ -8,7 +8,7 @@ use Rattle.armcaps_boot.specs.declared.halt.Halt.{Halt}
 use Rattle.armcaps_boot.specs.declared.refused.StepRefused.{StepRefused}
 use Rattle.armcaps_boot.specs.declared.reply.Reply.{Reply}
 use Rattle.armcaps_board.specs.Board.{Board}
-use Rattle.armcaps_board.proofs.Bools.{and_left, and_right}
+use Rattle.std.proofs.lemmas.Bool.{and_parts}
 use Rattle.armcaps_board.specs.Order.{in_order, is_next}
 use Rattle.armcaps_boot.specs.Admission.{halt_at, halt_of, steps_made}
 use Rattle.armcaps_top.specs.Bringing.{steps_before}
@@ -36,7 +36,7 @@ pub order_before : (board : Board) (later past : List Event) → in_order board 
 unfolding in_order
 order_before board [] past order = order
 order_before board (event ∷ later) past order =
-    order_before board later past (and_right (is_next board (later ++ past) event) (in_order board (later ++ past)) order)
+    order_before board later past (and_parts (is_next board (later ++ past) event) (in_order board (later ++ past)) order).1
 
 -- the step at an index comes next
 pub record ComesNext (board : Board) (index : ℕ) (events : List Event) (default : Event) : Type 0 where
@@ -52,8 +52,8 @@ comes_next board index events default inside order =
     let more : in_order board (get_or events index default ∷ steps_before index events) ≡ true =
     subst (λ (steps : List Event). in_order board steps ≡ true) (steps_more index events default inside)
     (order_before board (reverse (drop (index + 1) events)) (steps_before (index + 1) events) apart) in record {
-      order = and_right (is_next board (steps_before index events) (get_or events index default)) (in_order board (steps_before index events)) more;
-      next = and_left (is_next board (steps_before index events) (get_or events index default)) (in_order board (steps_before index events)) more;
+      order = (and_parts (is_next board (steps_before index events) (get_or events index default)) (in_order board (steps_before index events)) more).1;
+      next = (and_parts (is_next board (steps_before index events) (get_or events index default)) (in_order board (steps_before index events)) more).0;
     }
 
 -- what stopped a machine stops it for good
