@@ -139,9 +139,7 @@ impl Boot {
     /// The system registers: over the cores that were ever admitted.
     pub fn system(&self) -> &System
         ensures system { result.now ≡ self.now.system }
-        ensures stands {
-            IsSystemOf self.now.board.overrides (admitted_cores self.now.board self.now.states) result.now
-        }
+        ensures stands { IsSystemOf self.now.board.overrides (admitted_cores self.now.board self.now.states) result.now }
     {
         &self.machine.system
     }

@@ -44,8 +44,7 @@ fn passes(test: Test, boot: &CoreRegs, core: &CoreRegs, overrides: &Overrides, c
 
 /// Whether the system has the capability of this number, by what all cores that it stands for have in common. It is
 /// asked of capabilities of system scope.
-#[tactic(auto, unfolding(crate::specs::Capabilities::system_has_capability,
-    crate::specs::Capabilities::capability_over))]
+#[tactic(auto, unfolding(crate::specs::Capabilities::system_has_capability, crate::specs::Capabilities::capability_over))]
 pub fn system_has(number: u16, system: &System) -> bool
     requires { number < capability_count }
     ensures words { result ≡ system_has_capability system.now number }

@@ -68,12 +68,7 @@ pub fn cap(number: u16) -> Option<CapRow>
 }
 
 // The row that the table has.
-#[tactic(auto, unfolding(crate::specs::Rows::capability_rows, armcaps_tables::specs::Rows::id_aa64pfr0_rows,
-    armcaps_tables::specs::Rows::id_aa64pfr1_rows, armcaps_tables::specs::Rows::id_aa64smfr0_rows,
-    armcaps_tables::specs::Rows::id_aa64isar0_rows, armcaps_tables::specs::Rows::id_aa64isar1_rows,
-    armcaps_tables::specs::Rows::id_aa64isar2_rows, armcaps_tables::specs::Rows::id_aa64mmfr0_rows,
-    armcaps_tables::specs::Rows::id_aa64mmfr1_rows, armcaps_tables::specs::Rows::id_aa64mmfr2_rows,
-    armcaps_tables::specs::Rows::id_aa64mmfr3_rows))]
+#[tactic(auto, unfolding(crate::specs::Rows::capability_rows, armcaps_tables::specs::Rows::id_aa64pfr0_rows, armcaps_tables::specs::Rows::id_aa64pfr1_rows, armcaps_tables::specs::Rows::id_aa64smfr0_rows, armcaps_tables::specs::Rows::id_aa64isar0_rows, armcaps_tables::specs::Rows::id_aa64isar1_rows, armcaps_tables::specs::Rows::id_aa64isar2_rows, armcaps_tables::specs::Rows::id_aa64mmfr0_rows, armcaps_tables::specs::Rows::id_aa64mmfr1_rows, armcaps_tables::specs::Rows::id_aa64mmfr2_rows, armcaps_tables::specs::Rows::id_aa64mmfr3_rows))]
 fn row_of_table(number: u16) -> Option<CapRow>
     ensures { option_map columns_of result ≡ option_map columns_listed (slice_get capability_rows number) }
 {

@@ -27,8 +27,7 @@ fn first_place(text: &[u8], wanted: u8) -> Option<usize>
 }
 
 // What stands before and after the first byte of this value; all and nothing where there is none.
-#[tactic(auto, using(crate::proofs::WordParts::before_some, crate::proofs::WordParts::after_some,
-    crate::proofs::WordParts::before_none, crate::proofs::WordParts::after_none))]
+#[tactic(auto, using(crate::proofs::WordParts::before_some, crate::proofs::WordParts::after_some, crate::proofs::WordParts::before_none, crate::proofs::WordParts::after_none))]
 fn split_at_first(text: &[u8], wanted: u8) -> (&[u8], &[u8])
     ensures before { result.0.now ≡ before_first (λ byte. byte == wanted) text.now }
     ensures after { result.1.now ≡ after_first (λ byte. byte == wanted) text.now }

@@ -103,11 +103,7 @@ pub(crate) fn line_at(index: usize) -> Line
 }
 
 // The line that the table has.
-#[tactic(auto, unfolding(crate::specs::Rows::hwcap_rows, armcaps_tables::specs::Rows::id_aa64pfr0_rows,
-    armcaps_tables::specs::Rows::id_aa64pfr1_rows, armcaps_tables::specs::Rows::id_aa64zfr0_rows,
-    armcaps_tables::specs::Rows::id_aa64isar0_rows, armcaps_tables::specs::Rows::id_aa64isar1_rows,
-    armcaps_tables::specs::Rows::id_aa64isar2_rows, armcaps_tables::specs::Rows::id_aa64mmfr0_rows,
-    armcaps_tables::specs::Rows::id_aa64mmfr1_rows, armcaps_tables::specs::Rows::id_aa64mmfr2_rows))]
+#[tactic(auto, unfolding(crate::specs::Rows::hwcap_rows, armcaps_tables::specs::Rows::id_aa64pfr0_rows, armcaps_tables::specs::Rows::id_aa64pfr1_rows, armcaps_tables::specs::Rows::id_aa64zfr0_rows, armcaps_tables::specs::Rows::id_aa64isar0_rows, armcaps_tables::specs::Rows::id_aa64isar1_rows, armcaps_tables::specs::Rows::id_aa64isar2_rows, armcaps_tables::specs::Rows::id_aa64mmfr0_rows, armcaps_tables::specs::Rows::id_aa64mmfr1_rows, armcaps_tables::specs::Rows::id_aa64mmfr2_rows))]
 fn line_of_table(index: usize) -> Option<Line>
     ensures { option_map row_of_line result ≡ slice_get hwcap_rows index }
 {

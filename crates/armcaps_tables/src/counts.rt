@@ -1,10 +1,5 @@
 //! How many fields the tables have.
-#![tactic(auto, unfolding(crate::specs::Rows::id_aa64pfr0_rows, crate::specs::Rows::id_aa64pfr1_rows,
-    crate::specs::Rows::id_aa64zfr0_rows, crate::specs::Rows::id_aa64smfr0_rows, crate::specs::Rows::id_aa64dfr0_rows,
-    crate::specs::Rows::id_aa64isar0_rows, crate::specs::Rows::id_aa64isar1_rows,
-    crate::specs::Rows::id_aa64isar2_rows, crate::specs::Rows::id_aa64mmfr0_rows,
-    crate::specs::Rows::id_aa64mmfr1_rows, crate::specs::Rows::id_aa64mmfr2_rows,
-    crate::specs::Rows::id_aa64mmfr3_rows, crate::specs::Rows::ctr_rows, crate::specs::Rows::dczid_rows))]
+#![tactic(auto, unfolding(crate::specs::Rows::id_aa64pfr0_rows, crate::specs::Rows::id_aa64pfr1_rows, crate::specs::Rows::id_aa64zfr0_rows, crate::specs::Rows::id_aa64smfr0_rows, crate::specs::Rows::id_aa64dfr0_rows, crate::specs::Rows::id_aa64isar0_rows, crate::specs::Rows::id_aa64isar1_rows, crate::specs::Rows::id_aa64isar2_rows, crate::specs::Rows::id_aa64mmfr0_rows, crate::specs::Rows::id_aa64mmfr1_rows, crate::specs::Rows::id_aa64mmfr2_rows, crate::specs::Rows::id_aa64mmfr3_rows, crate::specs::Rows::ctr_rows, crate::specs::Rows::dczid_rows))]
 
 ghost use Rattle.std.specs.Prelude.{◌≡◌, ◌≤◌, length};
 ghost use Rattle.armcaps_tables.specs.Rows.{rows_of};

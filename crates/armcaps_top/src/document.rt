@@ -58,8 +58,7 @@ pub fn machine_of(alloc: Global, bytes: &[u8]) -> Result<(Machine, usize), Endin
 
 /// The machine of a document that another image follows, as long as the document's own, and the place where the two
 /// images begin, or else why the input is refused. It has at most 269,484,032 bytes.
-#[tactic(auto, unfolding(crate::specs::Document::document_pair), using(crate::proofs::Images::image_whole,
-    crate::proofs::KnownNumbers::numbers_are_known))]
+#[tactic(auto, unfolding(crate::specs::Document::document_pair), using(crate::proofs::Images::image_whole, crate::proofs::KnownNumbers::numbers_are_known))]
 pub fn machine_of_pair(alloc: Global, bytes: &[u8]) -> Result<(Machine, usize), Ending>
     requires { length bytes.now ≤ 269484032 }
     ensures document { IfOk result (λ read. document_pair bytes.now
