@@ -23,3 +23,5 @@ pub mod LocalStep
 pub mod StoreStep
 pub mod AnySteps
 pub mod WholeRuns
+pub mod StepByStep
+pub mod Brought

@@ -24,20 +24,16 @@ use Rattle.armcaps_boot.proofs.Holding.{past_by}
 use Rattle.armcaps_boot.proofs.OwnSteps.{own_number, store_own, offline_own, skipped, state_next, stepped_by, held_own}
 
 updated_answer : (last : Option Event) (was : Past) → is_updated_last last ≡ true → store_answer (state_from last None was) ≡ Ok Done
-updated_answer (Some (Local c)) was h = refl
-updated_answer None was h = absurd (let no : ⊥ = cc in no)
-updated_answer (Some (Check c)) was h = absurd (let no : ⊥ = cc in no)
-updated_answer (Some (Store c)) was h = absurd (let no : ⊥ = cc in no)
-updated_answer (Some (Offline c)) was h = absurd (let no : ⊥ = cc in no)
-updated_answer (Some Finalise) was h = absurd (let no : ⊥ = cc in no)
+updated_answer last was = elim last as (λ l. is_updated_last l ≡ true → store_answer (state_from l None was) ≡ Ok Done) [
+  | Some (Local c) ↦ λ h. refl
+  | _ ↦ λ h. absurd (let no : ⊥ = cc in no)
+]
 
 up_answer : (last : Option Event) (was : Past) → is_up_last last ≡ true → offline_answer (state_from last None was) ≡ Ok Done
-up_answer (Some (Store c)) was h = refl
-up_answer None was h = absurd (let no : ⊥ = cc in no)
-up_answer (Some (Check c)) was h = absurd (let no : ⊥ = cc in no)
-up_answer (Some (Local c)) was h = absurd (let no : ⊥ = cc in no)
-up_answer (Some (Offline c)) was h = absurd (let no : ⊥ = cc in no)
-up_answer (Some Finalise) was h = absurd (let no : ⊥ = cc in no)
+up_answer last was = elim last as (λ l. is_up_last l ≡ true → offline_answer (state_from l None was) ≡ Ok Done) [
+  | Some (Store c) ↦ λ h. refl
+  | _ ↦ λ h. absurd (let no : ⊥ = cc in no)
+]
 
 store_state : (final came has : Bool) → (came ≡ false → has ≡ true → final ≡ true)
     → Admitted (is_late_past (past_by (came || not final) true)) ≡ admitted_after final (past_by came has)

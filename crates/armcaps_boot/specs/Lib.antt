@@ -16,3 +16,4 @@ pub mod Admission
 pub mod After
 pub mod Findings
 pub mod Outcome
+pub mod Bringing

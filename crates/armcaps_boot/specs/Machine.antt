@@ -1,11 +1,12 @@
 -- What contracts see of a machine as the code keeps it.
-use Rattle.std.specs.Prelude.{◌≡◌}
+use Rattle.std.specs.Prelude.{◌≡◌, None}
 use Rattle.armcaps_caps.specs.Set.{holds}
 use Rattle.armcaps_caps.specs.Rows.{capability_count}
 use Rattle.armcaps_boot.specs.declared.machine.Machine.{Machine}
 use Rattle.armcaps_board.specs.declared.event.Event.{Event}
 use Rattle.armcaps_boot.specs.Answers.{Answer, live_answer}
 use Rattle.armcaps_boot.specs.Changes.{world_after}
+use Rattle.armcaps_boot.specs.Facts.{Facts}
 use Rattle.armcaps_boot.specs.Numbers.{numbers}
 use Rattle.armcaps_boot.specs.World.{World}
 
@@ -24,6 +25,11 @@ world_of machine = record {
   common_lengths = machine.common_lengths;
   lengths = machine.lengths;
 }
+
+-- a machine whose facts hold and that nothing has stopped
+pub record CanStep (machine : Machine) : Type 0 where
+  pub facts : Facts (world_of machine)
+  pub running : machine.halted ≡ None
 
 -- a machine that nothing has stopped makes a step: this is its answer, and what it leaves
 pub record IsStepped (old new : Machine) (event : Event) (result : Answer) : Type 0 where

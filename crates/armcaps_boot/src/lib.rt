@@ -2,6 +2,7 @@
 #![tactic(auto)]
 
 mod boot;
+mod bringing;
 mod cause;
 mod causes;
 mod core_state;
@@ -18,6 +19,7 @@ mod tests;
 
 pub use armcaps_board::{Event, StepLine, events_of};
 pub use boot::Boot;
+pub use bringing::{bring_up, make_step};
 pub use cause::Cause;
 pub use core_state::CoreState;
 pub use halt::Halt;

@@ -4,7 +4,7 @@ ghost use Rattle.armcaps_boot.specs.Causes as causes;
 ghost use Rattle.armcaps_boot.specs.Changes as changes;
 ghost use Rattle.armcaps_boot.specs.Facts.{Facts};
 ghost use Rattle.armcaps_boot.specs.First.{first_states, first_world};
-ghost use Rattle.armcaps_boot.specs.Machine.{IsStepped, world_of};
+ghost use Rattle.armcaps_boot.specs.Machine.{CanStep, IsStepped, world_of};
 ghost use Rattle.armcaps_tables.specs.Overriding.{AllFit};
 ghost use Rattle.armcaps_caps.specs.Rows.{capability_count};
 ghost use Rattle.armcaps_caps.specs.Set.{holds};
@@ -101,8 +101,7 @@ impl Machine {
     }
 
     fn check(&mut self, core: u32) -> Result<Reply, StepRefused>
-        requires facts { Facts (world_of self.old) }
-        requires running { self.old.halted ≡ None }
+        requires { CanStep self.old }
         ensures { IsStepped self.old self.new (Event.Check core) result }
     {
         let state = self.state_of(core)?;
@@ -120,8 +119,7 @@ impl Machine {
     }
 
     fn local(&mut self, core: u32) -> Result<Reply, StepRefused>
-        requires facts { Facts (world_of self.old) }
-        requires running { self.old.halted ≡ None }
+        requires { CanStep self.old }
         ensures { IsStepped self.old self.new (Event.Local core) result }
     {
         let state = self.state_of(core)?;
@@ -140,8 +138,7 @@ impl Machine {
     }
 
     fn store(&mut self, core: u32) -> Result<Reply, StepRefused>
-        requires facts { Facts (world_of self.old) }
-        requires running { self.old.halted ≡ None }
+        requires { CanStep self.old }
         ensures { IsStepped self.old self.new (Event.Store core) result }
     {
         let state = self.state_of(core)?;
@@ -161,8 +158,7 @@ impl Machine {
     }
 
     fn offline(&mut self, core: u32) -> Result<Reply, StepRefused>
-        requires facts { Facts (world_of self.old) }
-        requires running { self.old.halted ≡ None }
+        requires { CanStep self.old }
         ensures { IsStepped self.old self.new (Event.Offline core) result }
     {
         let state = self.state_of(core)?;
@@ -177,8 +173,7 @@ impl Machine {
     }
 
     fn finalise(&mut self) -> Result<Reply, StepRefused>
-        requires facts { Facts (world_of self.old) }
-        requires running { self.old.halted ≡ None }
+        requires { CanStep self.old }
         ensures { IsStepped self.old self.new Event.Finalise result }
     {
         if self.is_final {
