@@ -24,7 +24,8 @@ SUBJECTS = (
     ("Users", "What programs are told.", ("armcaps_hwcap",)),
     ("Images", "What a patched image is.", (
         "armcaps_alt", "armcaps_image", "armcaps_insn", "armcaps_patch", "armcaps_elf", "armcaps_jump")),
-    ("Pools", "What many machines have in common, and whether an image is the patched one.", ("armcaps_pool",)),
+    ("Pools", "What many machines have in common, and which of them holds each field down.", ("armcaps_baseline",)),
+    ("A second judge", "Whether an image is the patched one.", ("armcaps_pool",)),
     ("Machines from a number", "What `demo` works on, by its words alone.", (
         "armcaps_generate", "armcaps_text/Generator")),
     ("Others", "Definitions of crates that have no place above.", ()),

@@ -17,7 +17,7 @@ mod tests;
 
 pub use callback::callback_word;
 pub use callback_kind::CallbackKind;
-pub use laws::the_last_entry_replaces;
+pub use laws::{known_capabilities_decide, the_last_entry_replaces};
 pub use named_number::Named;
 pub use number_names::Names;
 pub use patch_kind::PatchKind;

@@ -6,7 +6,7 @@ use Rattle.std.proofs.lemmas.List.{ext_get_or}
 use Rattle.armcaps_pool.specs.declared.verdict.Verdict.{Verdict}
 use Rattle.armcaps_pool.specs.Audits.{IsFirstDifference, differs_at, first_difference, named_place}
 use Rattle.armcaps_pool.specs.Judging.{IsFirst}
-use Rattle.armcaps_pool.proofs.Firsts.{first_is_found, found_is_first, none_found, some_first}
+use Rattle.armcaps_baseline.proofs.Firsts.{first_is_found, found_is_first, none_found, some_first}
 
 -- the first place is found, or there is none
 found_first : (test : ℕ → Bool) (size place : ℕ) → IsFirst test size place

@@ -1,5 +1,4 @@
 -- What the contracts of this crate cite.
-pub mod Baselines
 pub mod Audits
 pub mod Judging
 pub mod Rightful

@@ -1,26 +1,20 @@
-//! What many machines have in common, the best register set that each of them accepts; and a second judge of a patched
-//! image.
+//! A second judge of a patched image. What many machines have in common is re-exported from armcaps_baseline.
 #![tactic(auto)]
 
 mod auditing;
-mod common_words;
 mod differing;
 mod judging;
 mod laws;
 mod marks;
-mod pool_baseline;
-mod pooling;
 mod right_word;
 mod sites;
 #[cfg(test)]
 mod tests;
 mod verdict;
 
-pub use auditing::audit;
-pub use laws::{
-    differences_are_told, groups_keep_their_limits, groups_make_one_baseline,
-    known_capabilities_decide,
+pub use armcaps_baseline::{
+    Baseline, baseline, groups_keep_their_limits, groups_make_one_baseline,
 };
-pub use pool_baseline::Baseline;
-pub use pooling::baseline;
+pub use auditing::audit;
+pub use laws::differences_are_told;
 pub use verdict::Verdict;

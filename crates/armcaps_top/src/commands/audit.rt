@@ -19,10 +19,10 @@ use crate::commands::patch::{bytes_from, check};
 use crate::document::machine_of_pair;
 use crate::ending::Ending;
 use crate::reason::Reason;
-use armcaps_alt::{Layout, Names};
+use armcaps_alt::{Layout, Names, known_capabilities_decide};
 use armcaps_boot::Boot;
 use armcaps_patch::enabled_on;
-use armcaps_pool::{Verdict, audit as audit_image, known_capabilities_decide};
+use armcaps_pool::{Verdict, audit as audit_image};
 use armcaps_text::Machine;
 use std::alloc::{AllocError, Global};
 
