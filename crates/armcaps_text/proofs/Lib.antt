@@ -12,5 +12,6 @@ pub mod LastLine
 pub mod Soundness
 pub mod Images
 pub mod Readings
+pub mod SeveralTexts
 pub mod GeneratedEntries
 pub mod GeneratedReading

@@ -14,3 +14,4 @@ pub mod Sound
 pub mod Reader
 pub mod Refusal
 pub mod Generator
+pub mod Texts

@@ -14,6 +14,7 @@ mod machine;
 mod number;
 mod reader;
 mod steps;
+mod texts;
 mod tokens;
 
 pub use format::Format;
@@ -21,6 +22,7 @@ pub use generator::generate;
 pub use kind::{TextKind, TextRefused};
 pub use machine::Machine;
 pub use number::number_up_to;
+pub use texts::{TextsRefused, TextsUnread, read_texts};
 
 #[cfg(test)]
 mod tests;
