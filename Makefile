@@ -30,6 +30,8 @@ PATCHING := examples/patching/make-kernel examples/patching/cpucap-defs.h
 # antt, contracts and theorem read the definitions of the crates, which an installed copy has not
 MODULES := $(filter-out %/antt.py %/contracts.py %/theorem.py,$(wildcard tools/armcaps_tools/*.py))
 SHAPES := $(wildcard tools/armcaps_tools/dumps/*.py)
+# the package for Python, by which the tools read reports
+PACKAGE := $(wildcard python/armcaps/*.py)
 TABLES := $(wildcard tools/data/*.tsv)
 IDREGS := $(patsubst %,tools/idregs/%,Makefile idregs.c registers.h virt.c virt-start.S virt.ld go.S)
 LIBRARY := $(DESTDIR)$(DATADIR)/armcaps
@@ -118,6 +120,7 @@ install:
 	$(INSTALL) -D -t "$(LIBRARY)" $(TOOLS:%=tools/%)
 	$(INSTALL) -D -m 644 -t "$(LIBRARY)/armcaps_tools" $(MODULES)
 	$(INSTALL) -D -m 644 -t "$(LIBRARY)/armcaps_tools/dumps" $(SHAPES)
+	$(INSTALL) -D -m 644 -t "$(LIBRARY)/armcaps" $(PACKAGE)
 	$(INSTALL) -D -m 644 -t "$(LIBRARY)/data" $(TABLES)
 	$(INSTALL) -m 644 VERSION "$(LIBRARY)/VERSION"
 	test ! -f $(PAGE) || { $(INSTALL) -m 644 $(PAGE) "$(LIBRARY)/armcaps.html"; }
@@ -136,9 +139,9 @@ uninstall:
 	done
 	rm -f "$(DESTDIR)$(ZSHDIR)/_armcaps"
 	cd "$(DESTDIR)$(DOCDIR)" && rm -f $(notdir $(PAGES)) $(EXAMPLES) $(DUMPS) $(PATCHING)
-	cd "$(LIBRARY)" && rm -f VERSION armcaps.html $(TOOLS) $(patsubst tools/%,%,$(MODULES) $(SHAPES) $(TABLES) $(IDREGS)) idregs/build idregs/run
-	cd "$(LIBRARY)" && rm -rf armcaps_tools/__pycache__ armcaps_tools/dumps/__pycache__
-	-cd "$(LIBRARY)" && rmdir armcaps_tools/dumps armcaps_tools data idregs
+	cd "$(LIBRARY)" && rm -f VERSION armcaps.html $(TOOLS) $(patsubst tools/%,%,$(MODULES) $(SHAPES) $(TABLES) $(IDREGS)) $(PACKAGE:python/%=%) idregs/build idregs/run
+	cd "$(LIBRARY)" && rm -rf armcaps/__pycache__ armcaps_tools/__pycache__ armcaps_tools/dumps/__pycache__
+	-cd "$(LIBRARY)" && rmdir armcaps armcaps_tools/dumps armcaps_tools data idregs
 	-rmdir "$(LIBRARY)"
 	-cd "$(DESTDIR)$(DOCDIR)" && rmdir examples/dumps examples/patching examples
 	-rmdir "$(DESTDIR)$(DOCDIR)"

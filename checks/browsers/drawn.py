@@ -34,8 +34,8 @@ def same(what, drawn, said):
 def compare_states(drawn, report, panics):
     """The state and cause of each core, as its card has them; `panics` are those of cores that stop the machine."""
     states = {core: f"{state} {cause}".strip() for cores, state, cause in drawn["cores"] for core in cores}
-    told = [panics.get(core, state) for core, state in enumerate(report.states)]
-    same("states", [states.get(core) for core in range(len(report.states))], told)
+    told = [panics.get(core.number, str(core)) for core in report.cores]
+    same("states", [states.get(core.number) for core in report.cores], told)
 
 
 def compare_fields(drawn, machine, report):
@@ -53,8 +53,7 @@ def compare_fields(drawn, machine, report):
 
 def compare_holders(drawn, machine, report):
     """Which cores hold fields where they are: those with the system's value, where admitted cores have others too."""
-    states = ("boot", "early", "late")
-    admitted = [core for core, state in enumerate(report.states) if state.split(" ")[0] in states]
+    admitted = [core.number for core in report.cores if core.is_admitted]
     wanted = set()
     for field in profile.fields():
         values = {core: field.value(machine.cores[core].get(field.register, 0)) for core in admitted}
@@ -67,15 +66,15 @@ def compare_holders(drawn, machine, report):
 
 def compare_machine(drawn, given, answer, trace, panics):
     """All that a page shows of a machine, beside what the program gave for it."""
-    machine, report = text.machine(given), text.report(answer.stdout)
+    machine, report = text.machine(given), text.read_report(answer.stdout)
     same("refusal", drawn["refusal"], "")
     same("report", drawn["report"].encode(), answer.stdout)
     same("trace", drawn["trace"].encode(), trace.stdout)
     compare_states(drawn, report, panics)
     compare_fields(drawn, machine, report)
     compare_holders(drawn, machine, report)
-    lengths = [list(map(str, report.lengths))] if report.lengths or len(drawn["tags"]) == 3 else []
-    same("tags", drawn["tags"], [report.capabilities, report.flags, *lengths])
+    lengths = [list(map(str, report.vector_lengths))] if report.vector_lengths or len(drawn["tags"]) == 3 else []
+    same("tags", drawn["tags"], [list(report.capabilities.values()), report.flags, *lengths])
     steps = [line.split(" ", 2)[2] for line in trace.stdout.decode().splitlines() if line.startswith("step ")]
     same("steps", drawn["steps"], [step for step in steps if not step.startswith("finalise")])
 

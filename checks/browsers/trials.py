@@ -81,12 +81,12 @@ class Trials:
             if report.returncode == 0:
                 self.page.put(data)
                 lost = sorted(set(self.page.drawn()["lost"]))
-                drawn.same(f"lost in {name}", lost, sorted(self.lost(data, text.report(report.stdout))))
+                drawn.same(f"lost in {name}", lost, sorted(self.lost(data, text.read_report(report.stdout))))
         button = "document.querySelector('#holders li[data-holders=\"2\"] button')"
         self.page.ask(f"void {button}.click()")
         self.page.wait(f"{button}.parentNode.textContent.includes('Won:')")
         told = self.page.ask(f"{button}.parentNode.querySelector('p').textContent")
-        now, other = (text.report(self.run("report", given).stdout) for given in (data, without(data, [2])))
+        now, other = (text.read_report(self.run("report", given).stdout) for given in (data, without(data, [2])))
         won = [name for part in ("capabilities", "flags") for name in set_apart(other, now, part)]
         drawn.same("won without core 2", told.split(". ")[0], f"Won: {', '.join(won)}")
         return "what cores would have alone, and what would be won without one"
@@ -95,15 +95,13 @@ class Trials:
         """The names that some admitted core would have alone, and the machine has not."""
         machine, found = text.machine(data), set()
         features = {row["name"] for row in profile.table("capabilities") if "feature" in row["class"]}
-        for core, state in enumerate(report.states):
-            if state.split(" ")[0] not in ("boot", "early", "late"):
-                continue
+        for core in (core.number for core in report.cores if core.is_admitted):
             words = [f"{name} {word:#x}" for name, word in machine.cores[core].items()]
             first = data.split(b"\n")[0].decode()
             lines = [first, "core 0", *words, "boot 0", f"cmdline {machine.cmdline}", "finalise", "end", ""]
-            alone = text.report(self.run("report", "\n".join(lines).encode()).stdout)
+            alone = text.read_report(self.run("report", "\n".join(lines).encode()).stdout)
             found |= set(set_apart(alone, report, "capabilities")) & features | set(set_apart(alone, report, "flags"))
-            found |= set(map(str, set_apart(alone, report, "lengths")))
+            found |= set(map(str, set_apart(alone, report, "vector_lengths")))
         return found
 
     def words(self):
@@ -247,7 +245,13 @@ class Trials:
 
 def set_apart(one, other, part):
     """What one report has in a list and the other has not."""
-    return [name for name in getattr(one, part) if name not in getattr(other, part)]
+    has, lacks = (named(getattr(report, part)) for report in (one, other))
+    return [name for name in has if name not in lacks]
+
+
+def named(part):
+    """The names of a report's part; capabilities are by number."""
+    return list(part.values()) if isinstance(part, dict) else part
 
 
 def without(data, cores):

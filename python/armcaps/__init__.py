@@ -8,10 +8,11 @@ objects; that reading is tested, not proved.
 ('parked', 'cap 7 HAS_LSE_ATOMICS')
 """
 
-from ._calls import Error, NotFound, Result, elf, jump, mrs, patch, report, run, trace
-from .reports import Core, Report, Step, Unreadable, read_report, read_trace
+from ._calls import Error, NotFound, Result, audit, elf, jump, mrs, patch, pool, report, run, trace
+from .reports import Baseline, Core, Report, Step, Unreadable, read_pool, read_report, read_trace
 
 __all__ = [
+    "Baseline",
     "Core",
     "Error",
     "NotFound",
@@ -19,10 +20,13 @@ __all__ = [
     "Result",
     "Step",
     "Unreadable",
+    "audit",
     "elf",
     "jump",
     "mrs",
     "patch",
+    "pool",
+    "read_pool",
     "read_report",
     "read_trace",
     "report",

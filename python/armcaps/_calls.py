@@ -2,10 +2,10 @@
 
 import dataclasses
 import re
-from typing import Optional, Union
+from typing import Iterable, Optional, Union
 
 from . import _library
-from .reports import Report, Step, read_report, read_trace
+from .reports import Baseline, Report, Step, read_pool, read_report, read_trace
 
 
 @dataclasses.dataclass(frozen=True)
@@ -19,7 +19,7 @@ class Result:
 
 class Error(Exception):
     """A run that wrote nothing: `status` is the library's (docs/LIBRARY.md), `line` its line; `place` and `kind` are
-    there where that line names a line of the text or an entry of a table."""
+    there where that line names a line of the text or an entry of a table, `machine` where it names one of a pool."""
 
     def __init__(self, status: int, line: str):
         super().__init__(line or f"status {status}")
@@ -28,6 +28,8 @@ class Error(Exception):
         found = re.search(r"(?:line|entry) (\d+): kind (\d+)", line)
         self.place: Optional[int] = int(found.group(1)) if found else None
         self.kind: Optional[int] = int(found.group(2)) if found else None
+        machine = re.match(r"armcaps: machine (\d+):", line)
+        self.machine: Optional[int] = int(machine.group(1)) if machine else None
 
 
 class NotFound(Error):
@@ -83,3 +85,18 @@ def elf(text: Union[str, bytes], image: bytes = b"") -> bytes:
 def jump(offset: int, count: int, text: Union[str, bytes], image: bytes = b"") -> bytes:
     """The patched image with its jump labels applied, whose table has so many entries at this offset."""
     return _output(f"jump {offset} {count}", _bytes(text) + image)
+
+
+def audit(text: Union[str, bytes], image: bytes, second: bytes) -> Optional[int]:
+    """Whether a second image is the patched one: None where it is, else the place of the first byte that differs."""
+    came = run("audit", _bytes(text) + image + second)
+    if came.status == 12:
+        return int(came.line.split()[-1])
+    if came.status == 0:
+        return None
+    raise Error(came.status, came.line)
+
+
+def pool(texts: Iterable[Union[str, bytes]]) -> Baseline:
+    """What machines, each by its text, can all keep to, and which of them limits each field; at most 64 at a time."""
+    return read_pool(_output("pool", b"".join(map(_bytes, texts))))

@@ -1,20 +1,30 @@
-"""Reports and traces, read into objects. Both are the program's own output (docs/REPORT.md, docs/TRACE.md)."""
+"""Reports, traces and baselines, read into objects. All are the program's own output (docs/REPORT.md, docs/TRACE.md)."""
 
 import dataclasses
-from typing import Dict, List, Optional
+from typing import Callable, Dict, List, Optional
 
 
 class Unreadable(Exception):
-    """Bytes that are no report or trace."""
+    """Bytes that are not what they are taken for."""
 
 
 @dataclasses.dataclass
 class Core:
-    """What became of a core: `boot`, `early`, `late`, `offline ..`, `absent` or `parked`, and why it was parked."""
+    """What became of a core: `boot`, `early`, `late`, `early offline`, `late offline`, `absent`, or `parked` with its
+    cause, as `cap 7 HAS_LSE_ATOMICS`."""
 
     number: int
     state: str
     cause: Optional[str] = None
+
+    def __str__(self) -> str:
+        """The state and its cause, as the report has them."""
+        return f"{self.state} {self.cause}" if self.cause else self.state
+
+    @property
+    def is_admitted(self) -> bool:
+        """Whether the core counts for the system: it came up, and may be offline now."""
+        return self.state.split(" ")[0] in ("boot", "early", "late")
 
 
 @dataclasses.dataclass
@@ -42,25 +52,40 @@ class Step:
     changed: Dict[str, int] = dataclasses.field(default_factory=dict)
 
 
-def _lines(data: bytes, name: str) -> List[str]:
+@dataclasses.dataclass
+class Baseline:
+    """What the machines of a pool can all keep to: how many they are, the words by the register's name, and by REG.FIELD
+    the number of the machine that limits the field."""
+
+    machines: int = 0
+    system: Dict[str, int] = dataclasses.field(default_factory=dict)
+    limits: Dict[str, int] = dataclasses.field(default_factory=dict)
+
+
+def _read(data: bytes, name: str, take: Callable[[str, str], None]) -> None:
+    """Hands each line between the first and the last to `take`: its first word, and the rest."""
     lines = data.decode("utf-8", "replace").splitlines()
     if not lines or lines[0] != f"armcaps {name} 1" or lines[-1] != "end":
         raise Unreadable(f"no {name}: it does not begin with `armcaps {name} 1` and end with `end`")
-    return lines[1:-1]
+    for count, line in enumerate(lines[1:-1], 2):
+        word, _, rest = line.partition(" ")
+        try:
+            take(word, rest)
+        except (ValueError, IndexError):
+            raise Unreadable(f"no {name}: line {count} is `{line}`") from None
 
 
 def read_report(data: bytes) -> Report:
     """The facts of a report."""
     found = Report()
-    for line in _lines(data, "report"):
-        word, _, rest = line.partition(" ")
+
+    def take(word: str, rest: str) -> None:
         first, _, more = rest.partition(" ")
         if word == "core":
+            if int(first) != len(found.cores):
+                raise ValueError(first)
             state, _, cause = more.partition(" ")
-            if state == "parked":
-                found.cores.append(Core(int(first), state, cause))
-            else:
-                found.cores.append(Core(int(first), more))
+            found.cores.append(Core(int(first), state, cause) if state == "parked" else Core(int(first), more))
         elif word == "reg":
             found.system[first] = int(more, 16)
         elif word == "user":
@@ -77,14 +102,16 @@ def read_report(data: bytes) -> Report:
             found.flags += rest.split()
         elif word == "vl":
             found.vector_lengths.append(int(rest))
+
+    _read(data, "report", take)
     return found
 
 
 def read_trace(data: bytes) -> List[Step]:
     """The steps of a trace, in their order."""
     steps: List[Step] = []
-    for line in _lines(data, "trace"):
-        word, _, rest = line.partition(" ")
+
+    def take(word: str, rest: str) -> None:
         if word == "step":
             number, event, more = rest.split(" ", 2)
             if event != "finalise":
@@ -94,4 +121,23 @@ def read_trace(data: bytes) -> List[Step]:
         elif word == "reg":
             register, _, value = rest.partition(" ")
             steps[-1].changed[register] = int(value, 16)
+
+    _read(data, "trace", take)
     return steps
+
+
+def read_pool(data: bytes) -> Baseline:
+    """The facts of a pool's baseline."""
+    found = Baseline()
+
+    def take(word: str, rest: str) -> None:
+        first, _, more = rest.partition(" ")
+        if word == "machines":
+            found.machines = int(rest)
+        elif word == "reg":
+            found.system[first] = int(more, 16)
+        elif word == "limit":
+            found.limits[first] = int(more)
+
+    _read(data, "pool", take)
+    return found

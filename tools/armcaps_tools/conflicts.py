@@ -131,13 +131,13 @@ def at_local(machine, report, core):
     found = []
     for name, (row, tests) in profile.tests("capabilities").items():
         if row["class"] not in BOOT:
-            found.append(conflict_of(name, row, tests, view, boot, name in report.capabilities))
+            found.append(conflict_of(name, row, tests, view, boot, name in report.capabilities.values()))
     for name, (row, tests) in profile.tests("hwcaps").items():
         met = row["tests"] == "always" or any(view.value(field_of(test)) >= test.least for test in tests)
         if name in report.flags and not met:
             found.append(Conflict(name, "hwcap", True, False, asks(tests, view)))
     own = view.words.get("sve_vl", 0)
-    for length in report.lengths:
+    for length in report.vector_lengths:
         if not own >> (length // 128 - 1) & 1:
             found.append(Conflict(f"vectors of {length} bits", "vector length", True))
     return [conflict for conflict in found if conflict]

@@ -33,7 +33,7 @@ def report(given):
         if done.returncode == 7:
             raise Stops(told)
         raise text.Unreadable(f"`armcaps report` refuses the text: {told or f'status {done.returncode}'}")
-    return text.report(done.stdout)
+    return text.read_report(done.stdout)
 
 
 def facts(given):
@@ -44,7 +44,7 @@ def facts(given):
     early = [
         core
         for number, core in enumerate(words)
-        if number == machine.boot or number in settled and not told.states[number].startswith("parked")
+        if number == machine.boot or number in settled and told.cores[number].state != "parked"
     ]
     return linux.Facts(told.system, words[machine.boot], early)
 
@@ -77,7 +77,7 @@ def decided(given):
     """Of each number of a text that stands before an image: its name, and whether it is on."""
     lines = given.split(b"\n")
     bare = [line for line in lines if not line.strip().startswith(IMAGE_LINES)]
-    capabilities = set(report(b"\n".join(bare).rstrip(b"\n") + b"\nend\n").capabilities)
+    capabilities = set(report(b"\n".join(bare).rstrip(b"\n") + b"\nend\n").capabilities.values())
     found = {}
     for tokens in (line.decode("utf-8", "replace").split() for line in lines):
         if tokens[:1] == ["number"]:

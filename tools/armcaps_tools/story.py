@@ -31,16 +31,13 @@ class Story:
     def __init__(self, given, report):
         self.given, self.machine, self.report = given, text.machine(given), report
         count = len(self.machine.cores)
-        if count != len(report.states):
-            raise text.Unreadable(f"the text has {count} cores and the report {len(report.states)}")
-        if report.states[self.machine.boot] != "boot":
-            raise text.Unreadable(
-                f"the text's boot core is {self.machine.boot}, and the report says "
-                f"`{report.states[self.machine.boot]}` of it"
-            )
-        states = list(enumerate(report.states))
-        self.admitted = [core for core, state in states if state.split(" ")[0] in ("boot", "early", "late")]
-        self.parked = [core for core, state in states if state.startswith("parked ")]
+        if count != len(report.cores):
+            raise text.Unreadable(f"the text has {count} cores and the report {len(report.cores)}")
+        boot = report.cores[self.machine.boot]
+        if boot.state != "boot":
+            raise text.Unreadable(f"the text's boot core is {self.machine.boot}, and the report says `{boot}` of it")
+        self.admitted = [core.number for core in report.cores if core.is_admitted]
+        self.parked = [core.number for core in report.cores if core.state == "parked"]
 
     def values(self, field, cores):
         return {core: field.value(self.machine.cores[core].get(field.register, 0)) for core in cores}
@@ -77,13 +74,13 @@ class Story:
 
     def cause(self, core):
         """What a parked core's cause asks, and the fields that it names."""
-        words = self.report.states[core].split(" ")
+        words = self.report.cores[core].cause.split(" ")
         name = words[-1]
-        if words[1] == "vl":
+        if words[0] == "vl":
             lengths = self.machine.cores[core].get("sve_vl", 0)
             own = ", ".join(str(128 * q) for q in range(1, 17) if lengths >> (q - 1) & 1) or "none"
             return f"the system has vectors of {name} bits, and the core's are: {own}", []
-        row, tests = profile.tests("hwcaps" if words[1] == "hwcap" else "capabilities").get(name, ({}, []))
+        row, tests = profile.tests("hwcaps" if words[0] == "hwcap" else "capabilities").get(name, ({}, []))
         if tests:
             asked = " or ".join(f"{fields.name_of(conflicts.field_of(test))} >= {test.least}" for test in tests)
             return f"{name} asks {asked}", [conflicts.field_of(test) for test in tests]
@@ -94,7 +91,7 @@ class Story:
             strict = [field for field in profile.fields_of("ctr_el0") if field.strict]
             differ = [field for field in strict if len(set(self.values(field, [self.machine.boot, core]).values())) > 1]
             return f"{name}: the cache type differs from that before", differ
-        return " ".join(words[1:]), []
+        return self.report.cores[core].cause, []
 
     def conflicts(self, core):
         """All conflicts of a parked core: with the boot core, and where it came late with the settled system."""

@@ -1,13 +1,13 @@
-"""Machine texts and reports, as the tools read them. That a text is right is armcaps' to say: here only its facts are
-taken."""
+"""Machine texts, as the tools read them. That a text is right is armcaps' to say: here only its facts are taken. Reports
+are read by the package `armcaps` for Python."""
 
 import dataclasses
 import pathlib
 import sys
 
+from armcaps import Unreadable, read_report
 
-class Unreadable(Exception):
-    """A file that is not what it is taken for."""
+__all__ = ["Machine", "Unreadable", "load", "machine", "number", "read_report", "spans"]
 
 
 def load(name):
@@ -53,46 +53,6 @@ def machine(data):
         except (IndexError, ValueError):
             raise Unreadable(f"line {count} of the text has no number, or stands before the first core") from None
     raise Unreadable("the text has no line `end` or `image`")
-
-
-@dataclasses.dataclass
-class Report:
-    """What a report says: each core's state, the system's and the users' words, the notes, and what is enabled."""
-
-    states: list
-    system: dict
-    user: dict
-    varies: list
-    notes: dict
-    capabilities: list
-    flags: list
-    lengths: list
-
-
-def report(data):
-    """The facts of a report."""
-    lines = data.decode("utf-8", "replace").splitlines()
-    if not lines or lines[0] != "armcaps report 1" or lines[-1] != "end":
-        raise Unreadable("no report: it does not begin with `armcaps report 1` and end with `end`")
-    found = Report([], {}, {}, [], {}, [], [], [])
-    for line in lines[1:-1]:
-        word, _, rest = line.partition(" ")
-        tokens = rest.split(" ")
-        if word == "core":
-            found.states.append(rest.partition(" ")[2])
-        elif word in ("reg", "user"):
-            (found.system if word == "reg" else found.user)[tokens[0]] = int(tokens[1], 16)
-        elif word == "varies":
-            found.varies.append(rest)
-        elif word == "note":
-            found.notes[tokens[0]] = tokens[1]
-        elif word == "cap":
-            found.capabilities.append(tokens[1])
-        elif word == "flags":
-            found.flags += tokens
-        elif word == "vl":
-            found.lengths.append(int(rest))
-    return found
 
 
 def spans(numbers):

@@ -106,11 +106,11 @@ class Conflicts(unittest.TestCase):
                 self.assertEqual(self.cause(b"parked " + cause), first.name, given.decode())
                 seen.add("panic")
                 continue
-            told = text.report(answer.stdout)
+            told = text.read_report(answer.stdout)
             for core, found in ((1, early), (2, conflicts.at_check(machine, 2) + conflicts.at_local(machine, told, 2))):
                 with self.subTest(given=given.decode(), core=core):
-                    self.assertEqual(self.cause(told.states[core].encode()), self.named(found[0] if found else None))
-                    seen.add(told.states[core].split(" ")[0])
+                    self.assertEqual(self.cause(str(told.cores[core]).encode()), self.named(found[0] if found else None))
+                    seen.add(told.cores[core].state)
         self.assertEqual(seen, {"panic", "parked", "early", "late"})
 
     def cause(self, state):
