@@ -7,6 +7,7 @@
 #   make page        makes the program's page, out/armcaps.html, which shows in a browser what it says; wants wasm-opt
 #   make lib         proves and builds the library for C, libarmcaps.a and libarmcaps.so; needs a C compiler
 #   make install     copies to DESTDIR and PREFIX; make uninstall removes what it copied
+#   make dist        makes the archive of the sources, of what is committed; it builds without git
 PREFIX ?= /usr/local
 BINDIR ?= $(PREFIX)/bin
 DATADIR ?= $(PREFIX)/share
@@ -35,12 +36,12 @@ PACKAGE := $(wildcard python/armcaps/*.py)
 TABLES := $(wildcard tools/data/*.tsv)
 IDREGS := $(patsubst %,tools/idregs/%,Makefile idregs.c registers.h virt.c virt-start.S virt.ld go.S)
 LIBRARY := $(DESTDIR)$(DATADIR)/armcaps
-# the library for C, and the number that rises where its callers have to be built anew
+# the library for C; its soname has the version's first number, which rises where callers have to be built anew
 ARCHIVE := crates/armcaps_c/out/libarmcaps_c.a
 BUILT := build/lib
 OBJCOPY ?= objcopy
 CFLAGS ?= -O2 -g -Wall -Wextra
-SONAME := libarmcaps.so.0
+SONAME := libarmcaps.so.$(firstword $(subst ., ,$(VERSION)))
 SHARED := libarmcaps.so.$(VERSION)
 # what is installed can be read by all, whatever the umask; DESTDIR may have a space
 INSTALL := umask 022 && install
@@ -146,7 +147,16 @@ uninstall:
 	-cd "$(DESTDIR)$(DOCDIR)" && rmdir examples/dumps examples/patching examples
 	-rmdir "$(DESTDIR)$(DOCDIR)"
 
+# the sources as they are committed; git is wanted here, and not where the archive is built
+DIST := armcaps-$(VERSION)
+
+dist:
+	@git diff --quiet HEAD || { echo "make dist: what is changed here is not committed, and not in the archive" >&2; exit 1; }
+	mkdir -p build
+	git archive --format=tar --prefix=$(DIST)/ HEAD | gzip -9n > build/$(DIST).tar.gz
+	@echo "made build/$(DIST).tar.gz"
+
 clean:
 	rm -rf build out crates/*/out
 
-.PHONY: all try test check page lib link-lib install install-lib uninstall uninstall-lib clean
+.PHONY: all try test check page lib link-lib install install-lib uninstall uninstall-lib dist clean

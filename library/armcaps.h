@@ -26,7 +26,8 @@ enum armcaps_status {
     ARMCAPS_NOT_PATCHED = 8, /* an entry of the table of alternatives is refused */
     ARMCAPS_NOT_READ = 9,    /* the core of `mrs` runs no program, or the word reads no register */
     ARMCAPS_NO_ELF = 10,     /* the image of `elf` is no ELF file of a kernel, or a selected entry is not loaded */
-    ARMCAPS_NO_LABELS = 11   /* the table of jump labels is outside the image, or an entry of it is refused */
+    ARMCAPS_NO_LABELS = 11,  /* the table of jump labels is outside the image, or an entry of it is refused */
+    ARMCAPS_DIFFERS = 12     /* the second image of `audit` is not the patched one */
 };
 
 /* Runs a command of the program in memory.

@@ -12,7 +12,7 @@ ERR_ROOM = 300
 
 def load():
     """The call of the library, with its types."""
-    name = os.environ.get("ARMCAPS_LIBRARY") or ctypes.util.find_library("armcaps") or "libarmcaps.so.0"
+    name = os.environ.get("ARMCAPS_LIBRARY") or ctypes.util.find_library("armcaps") or "libarmcaps.so.1"
     call = ctypes.CDLL(name).armcaps_run
     call.restype = ctypes.c_uint8
     size = ctypes.POINTER(SIZE)

@@ -67,10 +67,36 @@ class Calls(unittest.TestCase):
         text = example("one-core.txt").replace(b"end\n", b"image 4\n")
         self.assertEqual(armcaps.patch(text, b"\x1f\x20\x03\xd5"), b"\x1f\x20\x03\xd5")
 
+    def test_an_audit_names_the_first_byte_that_differs(self):
+        text = example("one-core.txt").replace(b"end\n", b"image 4\n")
+        self.assertIsNone(armcaps.audit(text, b"abcd", b"abcd"))
+        self.assertEqual(armcaps.audit(text, b"abcd", b"abCd"), 2)
+        with self.assertRaises(armcaps.Error) as caught:
+            armcaps.audit(text, b"abcd", b"abc")
+        self.assertEqual((caught.exception.status, caught.exception.place), (3, None))
+
     def test_too_little_room_tells_how_much_is_wanted(self):
         text, whole = example("one-core.txt"), example("one-core.report")
         self.assertEqual(_library.call(b"report", text, len(whole) - 1), (5, b"", len(whole), b""))
         self.assertEqual(_library.call(b"report", text, len(whole)), (0, whole, len(whole), b""))
+
+
+class Readers(unittest.TestCase):
+    """Outputs that are read without the library."""
+
+    POOL = b"armcaps pool 1\nmachines 2\nreg ctr_el0 0x0000000085448004\nlimit ctr.cwg 0\nlimit ctr.erg 1\nend\n"
+
+    def test_a_baseline(self):
+        found = armcaps.read_pool(self.POOL)
+        self.assertEqual(found, armcaps.Baseline(2, {"ctr_el0": 0x85448004}, {"ctr.cwg": 0, "ctr.erg": 1}))
+
+    def test_what_is_none(self):
+        whole = example("one-core.report")
+        for data in (b"", whole[:-5], b"x" + whole, whole.replace(b"core 0", b"core 1"), whole.replace(b"0x", b"0q")):
+            with self.assertRaises(armcaps.Unreadable):
+                armcaps.read_report(data)
+        with self.assertRaises(armcaps.Unreadable):
+            armcaps.read_trace(b"armcaps trace 1\nreg ctr_el0 0x0\nend\n")
 
 
 if __name__ == "__main__":

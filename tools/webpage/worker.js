@@ -1,4 +1,4 @@
-// The proved program in a worker of its own: a fresh instance of its module for each run, which sees no other's memory.
+// The proved call in a worker of its own: a fresh instance of its module for each run, which sees no other's memory.
 "use strict";
 
 let compiling = null;
