@@ -3,3 +3,5 @@ pub mod Ranges
 pub mod Hexadecimal
 pub mod Searching
 pub mod Extending
+pub mod Limits
+mod Worked

@@ -1,8 +1,9 @@
 -- Lines that are added one after the other.
-use Rattle.std.proofs.Common.{◌≡◌, ℕ, ◌+◌, ◌<◌, List, [], ◌∷◌, ◌++◌, length, take, get_or, refl, sym, ◌∙◌, ap, arith, append-nil, append_assoc, add-zero, zero-add, suc, zero}
+use Rattle.std.proofs.Common.{◌≡◌, ℕ, ◌+◌, ◌<◌, List, [], ◌∷◌, ◌++◌, length, take, get_or, slice_get, Some, refl, sym, ◌∙◌, ap, arith, append-nil, append_assoc, add-zero, zero-add, suc, zero}
 use Rattle.std.specs.List.{flat_map, range_with_len}
 use Rattle.std.proofs.lemmas.List.{take_more}
 use Rattle.std.proofs.lemmas.List.Concat.{flat_map-append}
+use Rattle.armcaps_logic.proofs.Lists.{item_at}
 
 range_push : (a n : ℕ) → range_with_len a (n + 1) ≡ range_with_len a n ++ (a + n) ∷ []
 range_push a zero = rw add-zero refl
@@ -35,3 +36,11 @@ pub item_more : {X : Type 0} (line : X → List ℕ) (items : List X) (i : ℕ) 
     mid ≡ old ++ flat_map line (take i items) → new ≡ mid ++ line (get_or items i d) → new ≡ old ++ flat_map line (take (i + 1) items)
 item_more line items i d old mid new inside so_far added =
     one_more line (take i items) (take (i + 1) items) (get_or items i d) old mid new (take_more items i d inside) so_far added
+
+-- the same, where the line is known of whatever item the list has there
+pub listed_more : {X : Type 0} (line : X → List ℕ) (items : List X) (i : ℕ) (old mid new : List ℕ) → i < length items →
+    mid ≡ old ++ flat_map line (take i items) → ((item : X) → slice_get items i ≡ Some item → new ≡ mid ++ line item) →
+    new ≡ old ++ flat_map line (take (i + 1) items)
+listed_more line items i old mid new inside so_far added =
+    let item = item_at items i inside in
+    one_more line (take i items) (take (i + 1) items) item.0 old mid new item.1.taken so_far (added item.0 item.1.here)

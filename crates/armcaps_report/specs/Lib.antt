@@ -4,3 +4,4 @@ pub mod Extending
 pub mod Texts
 pub mod Lines
 pub mod Report
+pub mod Pooled

@@ -9,6 +9,7 @@ mod group;
 mod groups;
 mod hwcaps;
 mod lengths;
+mod pooled;
 mod registers;
 mod reporting;
 mod settled;
@@ -19,6 +20,7 @@ mod varying;
 
 pub use causes::push_cause;
 pub use group::Group;
+pub use pooled::pool_report;
 pub use registers::push_register;
 pub use reporting::report;
 pub use settled::has_report;
