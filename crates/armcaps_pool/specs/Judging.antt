@@ -1,5 +1,5 @@
 -- How an image is judged: the words that are marked, and the first places that fail a test.
-use Rattle.std.specs.Prelude.{ℕ, ◌≡◌, ◌≤◌, ◌<◌, ◌-◌, ◌*◌, ◌/◌, ◌%◌, ◌==◌, ◌&&◌, ◌||◌, ◌+◌, Bool, true, false, not, if◌then◌else◌, List, ◌∷◌, filter, is_some, length, map, nat_le, nat_lt, slice_index}
+use Rattle.std.specs.Prelude.{ℕ, ◌≡◌, ◌≤◌, ◌<◌, ◌-◌, ◌*◌, ◌/◌, ◌^◌, ◌%◌, ◌==◌, ◌&&◌, ◌||◌, ◌+◌, Bool, true, false, not, if◌then◌else◌, List, ◌∷◌, filter, is_some, length, map, nat_le, nat_lt, slice_index}
 use Rattle.std.specs.List.{All, range_with_len}
 use Rattle.std.specs.Int.{bit_at}
 use Rattle.std.specs.Option.{option_map_or}
@@ -31,6 +31,11 @@ is_changed marks patched image place = not (is_marked marks (place / 4)) && diff
 -- whether two words differ in a byte, counted from the lowest
 abbrev pub differ_in : ℕ → ℕ → ℕ → Bool
 differ_in one other index = not (byte_of one index == byte_of other index)
+
+-- a second image has the length of the first, which is at most 2 ^ 29 bytes
+pub record AreImages (image patched : List ℕ) : Type 0 where
+  pub same : length patched ≡ length image
+  pub size : length image ≤ 2 ^ 29
 
 -- what the words of sites are made from; which capabilities are enabled is asked before
 abbrev pub features_by : NameLists → ℕ → Features

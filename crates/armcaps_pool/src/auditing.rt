@@ -5,7 +5,7 @@ ghost use Rattle.armcaps_alt.specs.declared.table_place.Layout.{Layout};
 ghost use Rattle.armcaps_alt.specs.Patched.{patched_image};
 ghost use Rattle.armcaps_alt.specs.Refusals.{first_refusal};
 ghost use Rattle.armcaps_pool.specs.Audits.{differs_at, features_of, first_difference, named_place};
-ghost use Rattle.armcaps_pool.specs.Judging.{IsFirst, is_marked};
+ghost use Rattle.armcaps_pool.specs.Judging.{AreImages, IsFirst, is_marked};
 
 use crate::differing::first_changed;
 use crate::judging::judge_sites;
@@ -58,8 +58,7 @@ fn first_wrong(
     ctr: u64,
 ) -> usize
     requires none { (number : ℕ) → is_marked marks.old number ≡ false }
-    requires same { length patched.now ≡ length image.now }
-    requires size { length image.now ≤ 2 ^ 29 }
+    requires images { AreImages image.now patched.now }
     requires marks { length image.now / 4 < 64 * length marks.old }
     requires table { layout.table + 12 * layout.count ≤ length image.now }
     requires accepted { first_refusal (features_of names.now enabled.now ctr) image.now layout ≡ None }

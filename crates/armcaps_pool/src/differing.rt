@@ -3,7 +3,7 @@
 ghost use Rattle.std.specs.Prelude.{◌≡◌, ◌<◌, ◌≤◌, ◌+◌, ◌*◌, ◌/◌, ◌^◌, ◌&&◌, false, length, nat_le};
 ghost use Rattle.armcaps_image.specs.Bytes.{byte_of};
 ghost use Rattle.armcaps_pool.specs.Audits.{differs_at};
-ghost use Rattle.armcaps_pool.specs.Judging.{IsFirst, differ_in, is_changed, is_marked};
+ghost use Rattle.armcaps_pool.specs.Judging.{AreImages, IsFirst, differ_in, is_changed, is_marked};
 
 use crate::marks::is_marked;
 use armcaps_image::word;
@@ -43,8 +43,7 @@ fn changed_byte(marks: &[u64], patched: &[u8], image: &[u8], number: usize) -> u
 
 // The first byte of no marked word in which an image differs from its original; the size where there is none.
 pub(crate) fn first_changed(marks: &[u64], patched: &[u8], image: &[u8]) -> usize
-    requires same { length patched.now ≡ length image.now }
-    requires size { length image.now ≤ 2 ^ 29 }
+    requires images { AreImages image.now patched.now }
     requires marks { length image.now / 4 ≤ 64 * length marks.now }
     requires tail { is_marked marks.now (length image.now / 4) ≡ false }
     ensures { IsFirst (is_changed marks.now patched.now image.now) (length image.now) result }

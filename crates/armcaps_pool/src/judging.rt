@@ -5,7 +5,7 @@ ghost use Rattle.armcaps_alt.specs.declared.table_entry.Entry.{Entry};
 ghost use Rattle.armcaps_alt.specs.Accepted.{IsAccepted};
 ghost use Rattle.armcaps_alt.specs.Entries.{entry_at, is_selected};
 ghost use Rattle.armcaps_pool.specs.Audits.{features_of};
-ghost use Rattle.armcaps_pool.specs.Judging.{AreAccepted, AreJudged, is_marked, last_of, with_entry};
+ghost use Rattle.armcaps_pool.specs.Judging.{AreAccepted, AreImages, AreJudged, is_marked, last_of, with_entry};
 
 use crate::sites::judge_site;
 use armcaps_alt::{Entry, Layout, Names, selected};
@@ -23,8 +23,7 @@ pub(crate) fn judge_sites(
     ctr: u64,
 ) -> usize
     requires none { (number : ℕ) → is_marked marks.old number ≡ false }
-    requires same { length patched.now ≡ length image.now }
-    requires size { length image.now ≤ 2 ^ 29 }
+    requires images { AreImages image.now patched.now }
     requires marks { length image.now / 4 < 64 * length marks.old }
     requires table { layout.table + 12 * layout.count ≤ length image.now }
     requires accepted { AreAccepted (features_of names.now enabled.now ctr) image.now layout }
@@ -62,8 +61,7 @@ fn judge_entry(
     enabled: &CapSet,
     ctr: u64,
 ) -> usize
-    requires same { length patched.now ≡ length image.now }
-    requires size { length image.now ≤ 2 ^ 29 }
+    requires images { AreImages image.now patched.now }
     requires marks { length image.now / 4 < 64 * length marks.old }
     requires accepted { is_selected (features_of names.now enabled.now ctr) entry.now ≡ true
         → IsAccepted names.now image.now entry.now }

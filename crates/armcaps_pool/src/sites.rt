@@ -5,7 +5,7 @@ ghost use Rattle.armcaps_image.specs.Places.{as_place};
 ghost use Rattle.armcaps_alt.specs.Accepted.{IsAccepted};
 ghost use Rattle.armcaps_alt.specs.Names.{NameLists};
 ghost use Rattle.armcaps_alt.specs.Words.{new_word, replacement_word};
-ghost use Rattle.armcaps_pool.specs.Judging.{IsFirst, IsJudged, features_by, is_marked, is_other, is_wrong_by};
+ghost use Rattle.armcaps_pool.specs.Judging.{AreImages, IsFirst, IsJudged, features_by, is_marked, is_other, is_wrong_by};
 
 use crate::differing::differing_byte;
 use crate::marks::{is_marked, mark};
@@ -24,8 +24,7 @@ pub(crate) fn judge_site(
     ctr: u64,
 ) -> usize
     requires accepted { IsAccepted names.now image.now entry.now }
-    requires same { length patched.now ≡ length image.now }
-    requires size { length image.now ≤ 2 ^ 29 }
+    requires images { AreImages image.now patched.now }
     requires marks { length image.now / 4 < 64 * length marks.old }
     ensures { IsJudged (features_by names.now ctr) image.now patched.now marks.old entry.now (entry.now.orig_len / 4)
         marks.new result }
@@ -48,8 +47,7 @@ fn judge_word(
     ctr: u64,
 ) -> usize
     requires accepted { IsAccepted names.now image.now entry.now }
-    requires same { length patched.now ≡ length image.now }
-    requires size { length image.now ≤ 2 ^ 29 }
+    requires images { AreImages image.now patched.now }
     requires marks { length image.now / 4 < 64 * length marks.old }
     requires index { 4 * index < entry.now.orig_len }
     ensures marked { (number : ℕ) → is_marked marks.new number
@@ -76,8 +74,7 @@ fn first_other(
     ctr: u64,
 ) -> usize
     requires accepted { IsAccepted names.now image.now entry.now }
-    requires same { length patched.now ≡ length image.now }
-    requires size { length image.now ≤ 2 ^ 29 }
+    requires images { AreImages image.now patched.now }
     requires index { 4 * index < entry.now.orig_len }
     ensures { IsFirst (λ place. (place / 4 == as_place entry.now.site / 4 + index)
         && is_other (features_by names.now ctr) image.now patched.now entry.now place) (length image.now) result }
@@ -100,8 +97,7 @@ fn site_word(
     ctr: u64,
 ) -> u32
     requires accepted { IsAccepted names.now image.now entry.now }
-    requires same { length patched.now ≡ length image.now }
-    requires size { length image.now ≤ 2 ^ 29 }
+    requires images { AreImages image.now patched.now }
     requires index { 4 * index < entry.now.orig_len }
     ensures { result ≡ new_word (features_by names.now ctr) image.now entry.now index }
 {
@@ -139,8 +135,7 @@ fn called_word(entry: &Entry, index: u32, image: &[u8], names: &Names, ctr: u64)
 fn replaced_word(entry: &Entry, index: u32, image: &[u8], patched: &[u8]) -> u32
     requires replacement { entry.now.callback ≡ false }
     requires accepted { (names : NameLists) × IsAccepted names image.now entry.now }
-    requires same { length patched.now ≡ length image.now }
-    requires size { length image.now ≤ 2 ^ 29 }
+    requires images { AreImages image.now patched.now }
     requires index { 4 * index < entry.now.orig_len }
     ensures { replacement_word image.now entry.now index ≡ Ok result }
 {
