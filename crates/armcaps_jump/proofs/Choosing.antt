@@ -1,5 +1,5 @@
 -- The word at a code place is that of the last entry there.
-use Rattle.std.proofs.Common.{◌≡◌, ◌≢◌, ◌+◌, ◌-◌, ◌*◌, ◌/◌, ◌%◌, ◌^◌, ◌<◌, ◌≤◌, ◌-ℤ◌, ◌∷◌, ◌&&◌, ◌∙◌, ℕ, ℤ, Bool, List, [], None, Option, Some, ap, arith, cond, false, get_or, inl, inr, int_rem, is_some, length, lit<, not, pos, refl, subst, suc, sym, true, zero, zero-add}
+use Rattle.std.proofs.Common.{◌≡◌, ◌≢◌, ◌+◌, ◌*◌, ◌/◌, ◌%◌, ◌^◌, ◌<◌, ◌≤◌, ◌-ℤ◌, ◌∷◌, ◌&&◌, ◌∙◌, ℕ, ℤ, Bool, List, [], None, Option, Some, ap, arith, cond, false, get_or, inl, inr, int_rem, is_some, length, lit<, not, pos, refl, subst, suc, sym, true, zero, zero-add}
 use Rattle.std.specs.List.{find, range_with_len}
 use Rattle.std.specs.Option.{option_map}
 use Rattle.std.specs.Ordering.{int_eq}

@@ -1,5 +1,6 @@
 -- Lemmas, by subject.
 pub mod Refusing
 pub mod Putting
-pub mod Sorting
+pub mod Pieces
+pub mod Finding
 pub mod Choosing

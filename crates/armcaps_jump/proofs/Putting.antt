@@ -1,10 +1,9 @@
 -- The bytes of a piece, and the sites that lie in it.
-use Rattle.std.proofs.Common.{◌≡◌, ◌+◌, ◌-◌, ◌*◌, ◌/◌, ◌%◌, ◌<◌, ◌≤◌, ◌∷◌, ◌++◌, ◌&&◌, ◌==◌, ◌∙◌, ℕ, List, [], None, Some, arith, cond, false, get_or, inl, inr, length, nat_le, nat_lt, refl, sym, take, true}
+use Rattle.std.proofs.Common.{◌≡◌, ◌+◌, ◌-◌, ◌*◌, ◌/◌, ◌%◌, ◌<◌, ◌≤◌, ◌∷◌, ◌++◌, ◌&&◌, ℕ, List, [], arith, cond, false, get_or, inl, inr, length, nat_le, nat_lt, refl, take, true}
 use Rattle.std.proofs.lemmas.Bool.{cases_Bool}
 use Rattle.std.proofs.lemmas.Bool.Decides.{nat_tests}
 use Rattle.std.proofs.lemmas.List.{take_more}
 use Rattle.armcaps_image.specs.Bytes.{byte_of}
-use Rattle.armcaps_image.specs.Last.{last_that}
 use Rattle.armcaps_image.proofs.Last.{last_that-append}
 use Rattle.armcaps_jump.specs.declared.site.Site.{Site}
 use Rattle.armcaps_jump.specs.Jumped.{byte_by, has_byte}

@@ -1,13 +1,12 @@
 -- The first entry of a table that is refused, and the sites of its entries one after the other.
-use Rattle.std.proofs.Common.{◌≡◌, ◌+◌, ◌<◌, ◌∷◌, ◌++◌, ℕ, List, None, Some, [], arith, false, get_or, is_some, length, map, refl, sym, true, zero-add, ◌∙◌, ap}
+use Rattle.std.proofs.Common.{◌≡◌, ◌+◌, ◌<◌, ◌∷◌, ◌++◌, ℕ, List, None, Some, [], arith, get_or, is_some, map, refl, zero-add, ◌∙◌, ap}
 use Rattle.std.specs.List.{find, range_with_len}
-use Rattle.std.specs.Option.{option_and_then}
 use Rattle.std.proofs.lemmas.List.{map-append}
 use Rattle.std.proofs.lemmas.List.FromFn.{get_or-range_with_len, length-range_with_len, map-range_with_len_more}
 use Rattle.armcaps_logic.proofs.Searches.{find_absent, find_present}
 use Rattle.armcaps_jump.specs.Entries.{entries_of, entry_at}
 use Rattle.armcaps_jump.specs.Jumped.{sites_of}
-use Rattle.armcaps_jump.specs.Refusals.{first_refusal, kind_of, refusal_at}
+use Rattle.armcaps_jump.specs.Refusals.{first_refusal, kind_of}
 use Rattle.armcaps_jump.specs.Words.{site_of}
 
 pub none_refused : (image : List ℕ) (table count : ℕ)

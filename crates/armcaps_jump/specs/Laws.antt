@@ -1,5 +1,5 @@
 -- What a table of jump labels makes of an image, in the words of its subject.
-use Rattle.std.specs.Prelude.{◌≡◌, ◌≢◌, ◌+◌, ◌*◌, ◌<◌, ◌≤◌, ℕ, List, Bool}
+use Rattle.std.specs.Prelude.{◌≡◌, ◌≢◌, ◌+◌, ◌<◌, ◌≤◌, ℕ, List}
 use Rattle.armcaps_insn.specs.Encodings.{nop}
 use Rattle.armcaps_insn.specs.Moved.{IsBranch}
 use Rattle.armcaps_image.specs.Places.{as_place}

@@ -3,5 +3,6 @@ pub mod Entries
 pub mod Words
 pub mod Refusals
 pub mod Jumped
+pub mod Grouping
 pub mod Standing
 pub mod Laws

@@ -1,5 +1,5 @@
 -- What the word at an entry's code place becomes.
-use Rattle.std.specs.Prelude.{◌+◌, ◌*◌, ◌/◌, ◌%◌, ◌^◌, ◌≡◌, ◌≤◌, ℕ, Bool, not, List, Option, Some, None, if◌then◌else◌, int_le, pos, unwrap_or}
+use Rattle.std.specs.Prelude.{ℕ, Bool, not, List, Option, Some, if◌then◌else◌, int_le, pos, unwrap_or}
 use Rattle.armcaps_insn.specs.Encodings.{nop}
 use Rattle.armcaps_insn.specs.Moved.{branch_to}
 use Rattle.armcaps_image.specs.Bytes.{signed_in}

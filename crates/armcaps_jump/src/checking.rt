@@ -7,6 +7,7 @@ ghost use Rattle.armcaps_jump.specs.Jumped.{sites_of};
 ghost use Rattle.armcaps_jump.specs.Refusals.{first_refusal};
 ghost use Rattle.armcaps_jump.specs.Standing.{IsSite, StandsFor};
 
+use crate::grouping::by_piece;
 use crate::judging::judge;
 use crate::jump_entry::JumpEntry;
 use crate::jumps::Jumps;
@@ -29,10 +30,9 @@ impl Jumps {
         if end > image.len() as u64 {
             return Err(JumpRefused::Table);
         }
-        let mut sites = sites(alloc, image, table, count)?;
-        sites.sort_by_key(|site| site.place)?;
+        let sites = sites(alloc, image, table, count)?;
         Ok(Jumps {
-            sites,
+            grouped: by_piece(alloc, &sites, image.len() / 4096 + 1)?,
             size: image.len() as u32,
         })
     }

@@ -75,8 +75,10 @@ fn word_of(entry: &JumpEntry, place: u32, key: u32, image: &[u8]) -> Option<u32>
     requires high { entry.now.target ≤ℤ pos (2 ^ 41) }
     ensures { result ≡ word_of image.now entry.now }
 {
+    // asked of each entry: whether it jumps cannot be foreseen
+    let branch = branch_word(u64::from(place), entry.target);
     if does_jump(entry, key, image) {
-        branch_word(u64::from(place), entry.target)
+        branch
     } else {
         Some(NOP)
     }

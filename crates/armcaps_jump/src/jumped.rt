@@ -1,7 +1,8 @@
 //! The image with its jump labels applied, as a text that is made piece by piece.
 
-ghost use Rattle.std.specs.Prelude.{◌≡◌, ◌+◌, ◌%◌, ◌<◌, ◌≤◌, ◌^◌, ℕ, length, slice_index};
+ghost use Rattle.std.specs.Prelude.{◌≡◌, ◌+◌, ◌/◌, ◌%◌, ◌<◌, ◌≤◌, ◌^◌, ℕ, length, slice_index};
 ghost use Rattle.std.specs.List.{All};
+ghost use Rattle.armcaps_jump.specs.Grouping.{sites_in};
 ghost use Rattle.armcaps_jump.specs.Jumped.{byte_by};
 ghost use Rattle.armcaps_jump.specs.Standing.{IsInPiece};
 
@@ -21,7 +22,8 @@ pub(crate) struct Jumped<'a> {
 impl<'a> Pieces for Jumped<'a> {
     ghost size = { λ text. length text.image.now };
 
-    ghost byte = { λ text place. byte_by text.jumps.now.sites place (slice_index text.image.now place) };
+    ghost byte = { λ text place. byte_by
+        (sites_in text.jumps.now.sites text.jumps.now.ends (place / 4096)) place (slice_index text.image.now place) };
 
     fn size(&self) -> usize {
         self.image.len()

@@ -1,13 +1,15 @@
-ghost use Rattle.std.specs.Prelude.{◌≡◌, ◌+◌, ◌%◌, ◌<◌, ◌≤◌, ℕ, OnErr, OnOk, length};
+ghost use Rattle.std.specs.Prelude.{◌≡◌, ◌+◌, ◌/◌, ◌%◌, ◌<◌, ◌≤◌, ℕ, OnErr, OnOk, length};
 ghost use Rattle.std.specs.List.{All};
 ghost use Rattle.armcaps_image.specs.Last.{last_that};
 ghost use Rattle.armcaps_io.specs.Causes.{Rose};
 ghost use Rattle.armcaps_io.specs.Streams.{Appends, AppendsPrefix};
+ghost use Rattle.armcaps_jump.specs.Grouping.{sites_in};
 ghost use Rattle.armcaps_jump.specs.Jumped.{has_byte, jump_image};
 ghost use Rattle.armcaps_jump.specs.Standing.{IsInPiece, StandsFor};
 
+use crate::grouping::Grouped;
 use crate::jumped::Jumped;
-use crate::nearby::near;
+use crate::nearby::sites_in;
 use crate::site::Site;
 use armcaps_io::{Sink, WriteFault, send_all};
 use std::marker::Model;
@@ -15,7 +17,7 @@ use std::marker::Model;
 /// The jump labels of an image: the words that its entries put at their code places.
 #[derive(Debug, Drop)]
 pub struct Jumps {
-    pub(crate) sites: Vec<Site>,
+    pub(crate) grouped: Grouped,
     pub(crate) size: u32,
 }
 
@@ -24,9 +26,10 @@ impl Model for Jumps {
 
     ghost Value = { JumpSites };
 
-    ghost view = { λ j. record { sites = j.sites.items; size = j.size } };
+    ghost view = { λ j. record { sites = j.grouped.sites.items; ends = j.grouped.ends.items; size = j.size } };
 
-    ghost invariant = { λ j. AreSites j.size j.sites.items };
+    ghost invariant = { λ j. AreSites
+        (record { sites = j.grouped.sites.items; ends = j.grouped.ends.items; size = j.size }) };
 }
 
 impl Jumps {
@@ -46,16 +49,17 @@ impl Jumps {
         send_all(&Jumped { jumps: self, image }, sink)
     }
 
-    // The sites in the piece from one place to another, where words begin or the image ends.
+    // The sites in the piece from one place to another, where the next piece begins or the image ends.
     pub(crate) fn nearby(&self, from: usize, to: usize) -> &[Site]
         requires order { from ≤ to }
-        requires begins { from % 4 ≡ 0 }
+        requires begins { from % 4096 ≡ 0 }
         requires within { to ≤ self.now.size }
-        requires ends { to < self.now.size → to % 4 ≡ 0 }
+        requires short { to ≤ from + 4096 }
+        requires ends { to < self.now.size → to ≡ from + 4096 }
         ensures each { All (IsInPiece from to) result.now }
-        ensures last { (place : ℕ) → from ≤ place → place < to
-            → last_that (has_byte place) result.now ≡ last_that (has_byte place) self.now.sites }
+        ensures last { (place : ℕ) → from ≤ place → place < to → last_that (has_byte place) result.now
+            ≡ last_that (has_byte place) (sites_in self.now.sites self.now.ends (place / 4096)) }
     {
-        near(&self.sites, self.size, from as u32, to as u32)
+        sites_in(&self.grouped, from / 4096)
     }
 }

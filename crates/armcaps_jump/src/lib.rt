@@ -3,6 +3,7 @@
 #![tactic(auto)]
 
 mod checking;
+mod grouping;
 mod judging;
 mod jump_entry;
 mod jumped;

@@ -1,35 +1,29 @@
 //! The sites in one piece of an image.
 
-ghost use Rattle.std.specs.Prelude.{◌≡◌, ◌%◌, ◌<◌, ◌≤◌, ℕ, length};
-ghost use Rattle.std.specs.List.{All};
-ghost use Rattle.std.specs.List.Sorted.{IsNonDecreasingBy, IsPartitionPoint};
-ghost use Rattle.armcaps_image.specs.Last.{last_that};
-ghost use Rattle.armcaps_jump.specs.Jumped.{has_byte};
-ghost use Rattle.armcaps_jump.specs.Standing.{AreSites, IsInPiece};
+ghost use Rattle.std.specs.Prelude.{◌≡◌, ◌<◌, ◌≤◌, length, slice_index};
+ghost use Rattle.armcaps_jump.specs.Grouping.{begin_of, sites_in};
 
+use crate::grouping::Grouped;
 use crate::site::Site;
 
-// The sites from one place to another, where words begin or the image ends.
-pub(crate) fn near(sites: &[Site], size: u32, from: u32, to: u32) -> &[Site]
-    requires sites { AreSites size sites.now }
-    requires order { from ≤ to }
-    requires begins { from % 4 ≡ 0 }
-    requires within { to ≤ size }
-    requires ends { to < size → to % 4 ≡ 0 }
-    ensures each { All (IsInPiece from to) result.now }
-    ensures last { (place : ℕ) → from ≤ place → place < to
-        → last_that (has_byte place) result.now ≡ last_that (has_byte place) sites.now }
+// The sites in the piece of this number.
+pub(crate) fn sites_in(grouped: &Grouped, piece: usize) -> &[Site]
+    requires piece { piece < length grouped.now.ends.items }
+    requires order { begin_of grouped.now.ends.items piece ≤ slice_index grouped.now.ends.items piece }
+    requires within { slice_index grouped.now.ends.items piece ≤ length grouped.now.sites.items }
+    ensures { result.now ≡ sites_in grouped.now.sites.items grouped.now.ends.items piece }
 {
-    let (_, rest) = sites.split_at(count_below(sites, from));
-    let (nearby, _) = rest.split_at(count_below(rest, to));
-    nearby
+    let begin = begin_of(&grouped.ends, piece);
+    &grouped.sites[begin..grouped.ends[piece] as usize]
 }
 
-// How many sites begin below a place.
-fn count_below(sites: &[Site], place: u32) -> usize
-    requires sorted { IsNonDecreasingBy (λ site. site.place) sites.now }
-    ensures within { result ≤ length sites.now }
-    ensures parted { IsPartitionPoint (λ site. site.place < place) (λ site. place ≤ site.place) sites.now result }
+// Where a piece begins, of where the pieces end.
+fn begin_of(ends: &[u32], piece: usize) -> usize
+    requires { piece < length ends.now }
+    ensures { result ≡ begin_of ends.now piece }
 {
-    sites.partition_point(|site| site.place < place)
+    match piece.checked_sub(1) {
+        Some(before) => ends[before] as usize,
+        None => 0,
+    }
 }

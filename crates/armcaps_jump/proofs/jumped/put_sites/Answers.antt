@@ -1,8 +1,8 @@
 -- One site more.
-use Rattle.std.proofs.Common.{◌≡◌, ◌+◌, ◌%◌, ◌<◌, ◌∙◌, ap, arith, cond, get_or, length, sym, take}
+use Rattle.std.proofs.Common.{◌+◌, ◌%◌, ◌<◌, ◌∙◌, ap, arith, cond, get_or, length, sym}
 use Rattle.armcaps_image.specs.Bytes.{byte_of}
 use Rattle.armcaps_jump.specs.declared.site.Site.{Site}
-use Rattle.armcaps_jump.specs.Jumped.{byte_by, has_byte}
+use Rattle.armcaps_jump.specs.Jumped.{has_byte}
 use Rattle.armcaps_jump.proofs.Putting.{byte_by-more, put_one}
 use Rattle.armcaps_jump.proofs.jumped.put_sites.Goals as goal
 
