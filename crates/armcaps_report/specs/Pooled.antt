@@ -40,4 +40,5 @@ limit_lines machines = flat_map (field_limits machines) tracked
 -- what is written of the machines' baseline
 unfoldable pub pool_report_of : List (List ℕ) → List ℕ
 pool_report_of machines =
-    codes "armcaps pool 1\n" ++ machines_line machines ++ baseline_lines machines ++ limit_lines machines ++ codes "end\n"
+    codes "armcaps pool 1\n" ++ machines_line machines ++ baseline_lines machines ++ limit_lines machines
+    ++ codes "end\n"
