@@ -1,6 +1,6 @@
 // What the page does on what is typed, chosen and dropped.
 
-const LONGEST_TEXT = 1 << 20, LONGEST_LINK = 16000, MOST_LINES = 20000, FIRST = "late-core";
+const LONGEST_TEXT = 1 << 20, LONGEST_POOL = 1 << 22, LONGEST_LINK = 16000, MOST_LINES = 20000, FIRST = "late-core";
 
 /** The numbers of the editor's lines, that of a refused one marked. */
 function drawGutter(refused) {
@@ -40,7 +40,8 @@ function setText(bytes) {
   text.value = decoder.decode(bytes);
   // what the editor would change stays as it is until the text is edited
   const isSame = asCharacters(encoder.encode(text.value)) === asCharacters(bytes);
-  Object.assign(state, { loaded: isSame ? null : bytes, image: null, imageName: "", commandLine: null, isEdit: false });
+  const loaded = isSame ? null : bytes;
+  Object.assign(state, { loaded, image: null, imageName: "", second: null, commandLine: null, isEdit: false });
   $("cmdline").value = "";
   $("examples").value = DATA.examples.find((one) => one.text === text.value)?.name ?? "";
 }
@@ -63,23 +64,40 @@ function note(words) {
   $("file-note").hidden = !words;
 }
 
-/** A file is a text, the image that a text names, or both. Of any other the page says what it is, and goes on. */
+/** Several files are machine texts of a pool, in the order of their names. */
+async function takeAll(files) {
+  if (files.length < 2) return files.length && take(files[0]);
+  const byName = [...files].sort((one, other) => (one.name < other.name ? -1 : 1));
+  const size = byName.reduce((sum, file) => sum + file.size, 0);
+  if (size > LONGEST_POOL) return note(`The files have ${size} bytes: armcaps-fleet takes so many. ${KEPT}`);
+  return take(new File(byName, "pool.txt"));
+}
+
+/** A file is texts, the image that a text names, or a text and its image. Of any other the page says what it is, and
+ * goes on. */
 async function take(file) {
   note("");
   const wanted = state.machine?.image ?? 0;
   if (wanted && file.size === wanted) return takeImage(file);
-  const start = new Uint8Array(await file.slice(0, LONGEST_TEXT).arrayBuffer()), cut = endOfText(start);
+  const begin = new Uint8Array(await file.slice(0, LONGEST_TEXT).arrayBuffer()), isMany = isPool(textsIn(begin));
+  const start = isMany ? new Uint8Array(await file.slice(0, LONGEST_POOL).arrayBuffer()) : begin;
+  const cut = endOfText(start);
   const isText = asCharacters(start.subarray(0, 8)) === "armcaps ";
   if (!isText && start.includes(0)) return note(`${file.name} is no text. ${imageHint(file.size, wanted)} ${KEPT}`);
-  if (cut === start.length && file.size > LONGEST_TEXT) {
-    return note(`${file.name} has ${file.size} bytes, and a machine text at most ${LONGEST_TEXT}. ${KEPT}`);
+  if (cut === start.length && file.size > start.length) {
+    const most = isMany ? `the texts of a pool here at most ${LONGEST_POOL}` : `a machine text at most ${LONGEST_TEXT}`;
+    return note(`${file.name} has ${file.size} bytes, and ${most}. ${KEPT}`);
   }
   setText(start.subarray(0, cut));
-  if (cut < file.size) {
-    const image = new Uint8Array(await file.slice(cut).arrayBuffer());
-    Object.assign(state, { image, imageName: `${file.name}.image` });
-  }
+  if (cut < file.size) takeImages(file.name, new Uint8Array(await file.slice(cut).arrayBuffer()));
   show();
+}
+
+/** What follows a text: its image, or that and a second one of the same length. */
+function takeImages(name, images) {
+  const wanted = readMachine($("text").value).image, isTwo = wanted > 0 && images.length === 2 * wanted;
+  const image = isTwo ? images.subarray(0, wanted) : images, second = isTwo ? images.subarray(wanted) : null;
+  Object.assign(state, { image, second, imageName: `${name}.image` });
 }
 
 const KEPT = "The text in the editor is kept.";
@@ -140,13 +158,14 @@ function listen() {
     show();
   });
   on("file", "change", async () => {
-    if ($("file").files[0]) await take($("file").files[0]);
+    await takeAll($("file").files);
     $("file").value = "";
   });
   on("command", "change", () => {
     forgetPatch();
-    $("labels-bar").hidden = $("command").value !== "jump";
+    showCommand();
   });
+  on("second", "change", takeSecond);
   on("quiet", "change", drawFields);
   on("find", "input", drawFields);
   on("mrs-core", "change", readUser);
@@ -158,7 +177,7 @@ function listen() {
   const clicks = {
     stop, back, patch, link: makeLink, "save-text": () => save("board.txt", textBytes()),
     "save-image": () => save(`${state.imageName || "image"}.patched`, state.patched),
-    "save-report": () => save("board.report", $("report").textContent),
+    "save-report": () => save(state.pool ? "board.pool" : "board.report", $("report").textContent),
   };
   for (const [id, act] of Object.entries(clicks)) on(id, "click", act);
 }
@@ -173,7 +192,7 @@ function listenToDrops() {
   document.addEventListener("dragleave", over(false));
   document.addEventListener("drop", (event) => {
     over(false)(event);
-    if (event.dataTransfer.files[0]) take(event.dataTransfer.files[0]);
+    takeAll(event.dataTransfer.files);
   });
 }
 

@@ -79,12 +79,14 @@ const CELL_WORDS = {
   hidden: ", hidden", decided: "", away: ", does not count", conflict: ", keeps the core off",
 };
 
+/** A value of a field; `whose` it is and its kind are told to who does not see its colour. */
+function valueCell(name, index, value, kind, whose, words = CELL_WORDS) {
+  const told = `${name}, ${whose}: ${value}${words[kind]}`;
+  return element("td", { class: `value ${kind}`, tabindex: -1, "data-row": index, "aria-label": told }, String(value));
+}
+
 function rowOf(row, index, kinds) {
-  const cell = (value, kind, whose) => {
-    const told = `${row.name}, ${whose}: ${value}${CELL_WORDS[kind]}`;
-    const marked = { class: `value ${kind}`, tabindex: -1, "data-row": index, "aria-label": told };
-    return element("td", marked, String(value));
-  };
+  const cell = (value, kind, whose) => valueCell(row.name, index, value, kind, whose);
   const system = row.note === "forced" ? "overridden" : "decided", users = row.field.visible ? system : "hidden";
   return element("tr", { "data-field": row.name },
     element("th", { scope: "row" }, row.name),
@@ -93,13 +95,17 @@ function rowOf(row, index, kinds) {
     cell(row.system, system, "system"), cell(row.users, users, "users"));
 }
 
-/** Draws the rows; one cell is in the order of tabs, and arrow keys move from it. */
 function drawMatrix(rows, kinds, onField) {
-  if (!rows.length) return;
-  const table = element("table", { class: "matrix", role: "grid", "aria-label": "Fields by cores" },
-    headOf(kinds), element("tbody", {}, rows.map((row, index) => rowOf(row, index, kinds))));
+  drawGrid("Fields by cores", headOf(kinds), rows.map((row, index) => rowOf(row, index, kinds)),
+    (index) => onField(rows[index]));
+}
+
+/** Draws rows of fields; one cell is in the order of tabs, and arrow keys move from it. */
+function drawGrid(label, head, rows, onRow) {
+  const table = element("table", { class: "matrix", role: "grid", "aria-label": label }, head,
+    element("tbody", {}, rows));
   fill("matrix", table);
-  const cellOf = ({ target }) => target.closest("td.value"), told = (cell) => cell && onField(rows[cell.dataset.row]);
+  const cellOf = ({ target }) => target.closest("td.value"), told = (cell) => cell && onRow(Number(cell.dataset.row));
   const gone = (cell) => {
     table.querySelector("td[tabindex='0']")?.setAttribute("tabindex", "-1");
     cell.setAttribute("tabindex", "0");
@@ -146,15 +152,20 @@ function heldBy(rows, kinds) {
   return [...held.values()].sort((one, other) => other.names.length - one.names.length);
 }
 
+/** What a field is, and where it stands. */
+function fieldTitle(field) {
+  const what = field.what ? `${field.what}. ` : "", { title } = registerByName.get(field.register);
+  return `${what}Bits ${bitsInWords(field)} of ${field.register.toUpperCase()}, ${title}.`;
+}
+
 /** What is told of a field: what it is, each value in words, who holds it, and what asks for it. */
 function fieldInWords(row, kinds) {
-  const { field } = row, register = registerByName.get(field.register), holders = holdersOf(row, kinds);
-  const says = (value) => valueAndWords(field, value), what = field.what ? `${field.what}. ` : "";
+  const { field } = row, holders = holdersOf(row, kinds), says = (value) => valueAndWords(field, value);
   const users = field.visible ? says(row.users) : `${row.users}, its safe value: it is hidden from them`;
   const each = kinds.map((kind, at) => `${coresInWords(kind.numbers)}: ${says(row.values[at])}`);
   const own = new Set(row.values).size > 1 ? each : [`All cores: ${says(row.values[0])}`];
   const lines = [
-    `${what}Bits ${bitsInWords(field)} of ${field.register.toUpperCase()}, ${register.title}.`,
+    fieldTitle(field),
     `${own.join("; ").replace(/^c/, "C")}. System: ${says(row.system)}. Users: ${users}.`,
     `${ruleInWords(field)}: ${RULES[field.rule]}. Cores ${field.strict ? "should not" : "may"} differ in it.`,
   ];

@@ -1,4 +1,5 @@
-// What a patch changed in an image, by capability: counted from the images and the text, as armcaps-patch-diff does.
+// What a patch changed in an image, and what an audit says of a second one. Changes by capability are counted
+// from the images and the text, as armcaps-patch-diff does.
 const CALLBACK = 0x8000, ENTRY = 12;
 
 /** The entries of the table of alternatives, their places counted from the image's first byte. */
@@ -71,7 +72,17 @@ function drawImageNote() {
   $("patch").disabled = !hasImage || state.report === null;
   const wantsElf = hasImage && isElf(state.image);
   if (hasImage && wantsElf !== ($("command").value === "elf")) $("command").value = wantsElf ? "elf" : "patch";
-  $("labels-bar").hidden = $("command").value !== "jump";
+  if (state.second) $("command").value = "audit";
+  showCommand();
+}
+
+/** What the chosen command wants beside the image. */
+function showCommand() {
+  const command = $("command").value;
+  $("labels-bar").hidden = command !== "jump";
+  $("second-bar").hidden = command !== "audit";
+  $("save-image").hidden = command === "audit";
+  $("patch").textContent = command === "audit" ? "Judge" : "Patch";
 }
 
 function forgetPatch() {
@@ -90,16 +101,46 @@ async function patch() {
   const turn = ++state.turn;
   forgetPatch();
   $("stop").disabled = false;
-  $("patch-answer").textContent = "Patching.";
-  const answer = await engine.run(patchWords(), [textBytes(), state.image]);
+  $("patch-answer").textContent = "The program runs.";
+  const isAudit = $("command").value === "audit", parts = [textBytes(), state.image];
+  const answer = await engine.run(patchWords(), isAudit ? [...parts, state.second ?? new Uint8Array(0)] : parts);
   if (turn !== state.turn) return;
   $("stop").disabled = true;
-  if (answer.status === 0) showPatched(answer.out);
+  if (isAudit && (answer.status === 0 || answer.status === 12)) showAudit(answer);
+  else if (answer.status === 0) showPatched(answer.out);
   else $("patch-answer").textContent = `${answer.err}${remedyOfPatch(answer)}`;
   document.body.dataset.patched = String(turn);
 }
 
+/** Whether the second image is the patched one, or the first byte in which it is not. */
+function showAudit({ status, err }) {
+  const place = Number(err.match(/byte (\d+)$/)?.[1]), hex = (number) => `0x${number.toString(16)}`;
+  const differs = () => `No: byte ${place} (${hex(place)}) is the first that differs from the patched image's. It is `
+    + `${hex(state.second[place])} in the second image and ${hex(state.image[place])} in the first. ${siteAt(place)}`;
+  $("patch-answer").textContent = status === 0 ? "Yes: the second image is the patched one, byte for byte." : differs();
+}
+
+/** In which site a byte lies: that of the last selected entry over it. */
+function siteAt(place) {
+  let found = "It lies in no site of a selected entry, so it should be as in the first image.", number = 0;
+  for (const entry of state.machine.table ? entriesOf(state.image, state.machine.table) : []) {
+    const { name, isOn } = decided(state.machine, state.report, entry.number), at = place - entry.site;
+    if (isOn && at >= 0 && at < entry.length) found = `It is byte ${at} of the site of entry ${number}, ${name}.`;
+    number++;
+  }
+  return found;
+}
+
+async function takeSecond() {
+  const [file] = $("second").files;
+  if (!file) return;
+  forgetPatch();
+  state.second = new Uint8Array(await file.arrayBuffer());
+  $("patch-answer").textContent = `${file.name} has ${state.second.length} bytes.`;
+}
+
 function remedyOfPatch({ status, err }) {
+  if (status === 3 && $("command").value === "audit") return ". The second image wants as many bytes as the first.";
   if (status === 2) return ". The jump labels want two numbers, OFFSET and COUNT: armcaps-kernel2text says both.";
   const found = err.match(/^armcaps: (patch|elf|jump): (?:entry \d+: )?kind (\d+)/);
   return found ? `. ${DATA.patching[found[1]][found[2]]}` : "";

@@ -3,7 +3,7 @@
 /** What is shown: the document, a command line to try, and what the program wrote of the text that both make. */
 const state = {
   loaded: null, image: null, imageName: "", commandLine: null, isEdit: false, before: null,
-  machine: null, bytes: null, report: null, kinds: [], rows: [], patched: null, turn: 0,
+  second: null, machine: null, bytes: null, report: null, pool: null, kinds: [], rows: [], patched: null, turn: 0,
 };
 const MOST_KINDS = 64, MOST_PANICS = 64;
 
@@ -30,7 +30,20 @@ async function show() {
   const turn = ++state.turn;
   if (engine.isBusy) engine.stop();
   $("stop").disabled = false;
-  const bytes = textBytes(), report = await ask("report", bytes);
+  const texts = textsIn(ownBytes()), isMany = isPool(texts);
+  if (isMany !== document.body.classList.contains("pool")) forgetDrawn();
+  document.body.classList.toggle("pool", isMany);
+  await (isMany ? showPool(ownBytes(), texts) : showText(textBytes()));
+  if (turn !== state.turn) return;
+  drawImageNote();
+  $("stop").disabled = true;
+  state.isEdit = true;
+  document.body.dataset.shown = String(turn);
+}
+
+/** Draws what the program says of one text. */
+async function showText(bytes) {
+  const turn = state.turn, report = await ask("report", bytes);
   if (turn !== state.turn) return;
   state.machine = readMachine(decoder.decode(bytes));
   forgetPatch();
@@ -38,11 +51,6 @@ async function show() {
   if (report.status === 0) await showMachine(bytes, bytes, report, []);
   else if (report.status === 7) await showPanic(bytes, report);
   else showRefusal(bytes, report);
-  if (turn !== state.turn) return;
-  drawImageNote();
-  $("stop").disabled = true;
-  state.isEdit = true;
-  document.body.dataset.shown = String(turn);
 }
 
 /** Draws the machine of a text; `panics` are cores whose steps were left out, each with its cause. */
@@ -53,11 +61,8 @@ async function showMachine(given, bytes, answer, panics) {
   const trace = (await textOf("trace", bytes)) ?? "", initial = await textOf("report", withoutCores(bytes, all));
   const lost = await lostAgainst(kinds, given, report);
   if (turn !== state.turn) return;
-  Object.assign(state, { report, kinds, bytes });
-  fill("refusal");
-  $("refusal").hidden = true;
-  $("text").removeAttribute("aria-invalid");
-  document.body.classList.remove("stale");
+  Object.assign(state, { report, pool: null, kinds, bytes });
+  clearRefusal();
   $("report").textContent = output;
   $("trace").textContent = trace;
   showVerdict(machine, report, states, panics);
@@ -121,26 +126,42 @@ const PARTS = [
   "cores", "lanes", "events", "matrix", "detail", "holders", "capabilities", "folded", "report", "trace", "mrs-answer",
 ];
 
-/** A refused text: its line is marked, with its kind and what to do. What an edited text had is kept, in grey. */
+function forgetDrawn() {
+  Object.assign(state, { report: null, pool: null, kinds: [], rows: [] });
+  for (const id of PARTS) fill(id);
+}
+
+function clearRefusal() {
+  fill("refusal");
+  $("refusal").hidden = true;
+  $("text").removeAttribute("aria-invalid");
+  document.body.classList.remove("stale");
+}
+
 function showRefusal(bytes, answer) {
   if (answer.stopped) return;
-  if (!state.isEdit) {
-    Object.assign(state, { report: null, kinds: [], rows: [] });
-    for (const id of PARTS) fill(id);
-  }
-  document.body.classList.toggle("stale", state.report !== null);
-  const why = answer.status === 3 ? "the text is refused" : "the run did not end";
-  $("summary").textContent = `No machine: ${why}.${state.report ? " What follows is of the text before." : ""}`;
-  $("summary").classList.add("bad");
   const said = answer.err.replace(/^armcaps: /, ""), at = said.match(/^line (\d+): kind (\d+)/);
-  const line = at && Number(at[1]), remedy = at ? remedyOfKind(Number(at[2]), bytes) : remedyOfInput(said, bytes);
+  const remedy = at ? remedyOfKind(Number(at[2]), bytes) : remedyOfInput(said, bytes);
+  tellRefusal(bytes, answer, at && Number(at[1]), remedy);
+}
+
+const buttonOf = (words, onclick) => element("button", { type: "button", onclick }, words);
+const WHY = { 3: "the text is refused", 7: "a kernel would panic on a machine of the pool" };
+
+/** A refused text: its line is marked, with its kind and what to do. What an edited text had is kept, in grey. */
+function tellRefusal(bytes, answer, line, remedy, more = "") {
+  if (!state.isEdit) forgetDrawn();
+  const isKept = state.report !== null || state.pool !== null, why = WHY[answer.status] ?? "the run did not end";
+  document.body.classList.toggle("stale", isKept);
+  $("summary").textContent = `No ${answer.status === 7 ? "baseline" : "machine"}: ${why}.${
+    isKept ? " What follows is of the text before." : ""}`;
+  $("summary").classList.add("bad");
   if (line) drawGutter(line);
   $("refusal").hidden = false;
   $("text").setAttribute("aria-invalid", "true");
-  const button = (words, onclick) => element("button", { type: "button", onclick }, words);
   fill("refusal", element("strong", {}, answer.err), " ", remedy, " ",
-    line ? button(`Go to line ${line}`, () => goToLine(line)) : "", " ",
-    hasReturns(bytes) ? button("Drop the carriage returns", dropReturns) : "");
+    line ? buttonOf(`Go to line ${line}`, () => goToLine(line)) : "", " ",
+    hasReturns(bytes) ? buttonOf("Drop the carriage returns", dropReturns) : "", more);
 }
 
 const hasReturns = (bytes) => bytes.includes(13);
@@ -157,20 +178,25 @@ function remedyOfInput(said, bytes) {
   return whatItMayBe(bytes);
 }
 
+const NOTHING = [
+  "All machines have the same in every field.",
+  "All cores have the same in every field, and no field is overridden.",
+];
+
 /** The rows that are wanted, and what is told where the pointer or the focus is. */
 function drawFields() {
-  if (!state.report) return;
+  if (!state.report && !state.pool) return;
   const wanted = $("find").value.trim().toLowerCase(), all = $("quiet").checked || wanted !== "";
-  const rows = DATA.fields.map((field) => fieldRow(field, state.kinds, state.report));
+  const rows = state.pool ? poolRows() : DATA.fields.map((field) => fieldRow(field, state.kinds, state.report));
   const isFound = (row) => `${row.name} ${row.field.what}`.toLowerCase().includes(wanted);
   state.rows = rows.filter((row) => (all || !row.isQuiet) && isFound(row));
   fill("detail", element("p", {}, "Point at a value, or go to it by the arrow keys, to see what it means."));
-  drawHolders(rows);
+  if (!state.pool) drawHolders(rows);
   const folded = rows.length - state.rows.length;
   $("folded").textContent = folded ? `${folded} fields are folded away.` : "";
-  if (state.rows.length) return drawMatrix(state.rows, state.kinds, explainField);
-  const none = wanted ? "No such field." : "All cores have the same in every field, and no field is overridden.";
-  fill("matrix", element("p", {}, none));
+  if (!state.rows.length) fill("matrix", element("p", {}, wanted ? "No such field." : NOTHING[Number(!state.pool)]));
+  else if (state.pool) drawPool(state.rows);
+  else drawMatrix(state.rows, state.kinds, explainField);
 }
 
 /** What is known of a field, and a button that leaves out those who hold it. */

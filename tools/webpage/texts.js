@@ -46,12 +46,12 @@ function aloneText(bytes, machine, core) {
   return asBytes([...core0, ...commandLine, "finalise", "end", ""].join("\n"));
 }
 
-/** Where the text of a file ends: behind its line `image`, or at the file's end. */
+/** Where the text of a file ends: behind its line `image`, or at the file's end, as where other texts follow. */
 function endOfText(bytes) {
   const start = asCharacters(bytes.subarray(0, 1 << 20));
   if (!start.startsWith("armcaps ")) return bytes.length;
-  const last = start.match(/\n *image +\S+ *\n/);
-  return last ? last.index + last[0].length : bytes.length;
+  const last = start.match(/\n *image +\S+ *\n/), end = last ? last.index + last[0].length : bytes.length;
+  return start.startsWith("armcaps ", end) ? bytes.length : end;
 }
 
 const TAKEN_FOR = [
