@@ -10,12 +10,17 @@ READ = """(() => {
   const held = all("#holders li").map((item) => numbers(item.dataset.holders));
   const rows = all("#matrix tbody tr").map((row) =>
     [row.dataset.field, all("td.value", row).map((cell) => Number(cell.textContent))]);
+  const machines = all("#matrix thead th[data-machines]").map((cell) => numbers(cell.dataset.machines));
+  const limits = all("#matrix td[data-limit]").map((cell) => Number(cell.dataset.limit));
+  const placesOf = (row) => all("td.limits", row).map((cell) => Number(cell.dataset.at));
+  const marked = all("#matrix tbody tr").map(placesOf);
   const tags = all("#capabilities ul").map((list) => all("li:not(.lost)", list).map((item) => item.textContent));
   return {
-    cores: all("#cores .card").map(({ dataset: { cores, state, cause } }) => [numbers(cores), state, cause]),
+    cores: all("#cores .card[data-cores]").map(({ dataset: { cores, state, cause } }) => [numbers(cores), state, cause]),
     lost: all("#capabilities .lost").map((item) => item.dataset.lost),
-    head, rows, tags, held, refusal: document.querySelector("#refusal strong")?.textContent ?? "",
-    marked: document.querySelector("#gutter b")?.textContent ?? null,
+    machines, limits, marked, head, rows, tags, held,
+    refusal: document.querySelector("#refusal strong")?.textContent ?? "",
+    line: document.querySelector("#gutter b")?.textContent ?? null,
     steps: all("#lanes [data-step]").map(({ dataset }) => `${dataset.step} ${dataset.core} ${dataset.reply}`),
     report: document.getElementById("report").textContent, trace: document.getElementById("trace").textContent,
   };
@@ -79,8 +84,28 @@ def compare_machine(drawn, given, answer, trace, panics):
     same("steps", drawn["steps"], [step for step in steps if not step.startswith("finalise")])
 
 
+def compare_pool(drawn, answer, reports):
+    """What a page shows of a pool, beside the baseline that the program gave and the reports of its machines."""
+    baseline = text.read_pool(answer.stdout)
+    same("refusal", drawn["refusal"], "")
+    same("baseline", drawn["report"].encode(), answer.stdout)
+    same("machines", sorted(number for numbers in drawn["machines"] for number in numbers), list(range(len(reports))))
+    names = [fields.name_of(field) for field in profile.fields()]
+    same("fields", [name for name, _ in drawn["rows"]], names)
+    same("limits", drawn["limits"], [baseline.limits[name] for name in names])
+    for field, (name, values), marked in zip(profile.fields(), drawn["rows"], drawn["marked"]):
+        *own, common = values
+        same(name, common, field.value(baseline.system[field.register]))
+        told = [field.value(report.system[field.register]) for report in reports]
+        by_machine = {number: value for numbers, value in zip(drawn["machines"], own) for number in numbers}
+        same(name, [by_machine[number] for number in range(len(reports))], told)
+        first = baseline.limits[name]
+        limiting = [at for at, numbers in enumerate(drawn["machines"]) if own[at] == common or first in numbers]
+        same(f"marked in {name}", marked, limiting if len(set(told)) > 1 else [])
+
+
 def compare_refusal(drawn, answer):
     """The line of a refusal, and the mark of the text's line."""
     same("refusal", drawn["refusal"], answer.stderr.decode().strip())
     words = answer.stderr.split()
-    same("marked line", drawn["marked"], words[2].rstrip(b":").decode() if words[1] == b"line" else None)
+    same("marked line", drawn["line"], words[2].rstrip(b":").decode() if words[1] == b"line" else None)

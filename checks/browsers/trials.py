@@ -104,6 +104,54 @@ class Trials:
             found |= set(map(str, set_apart(alone, report, "vector_lengths")))
         return found
 
+    def pools(self):
+        """Pools of examples, refused ones, and one with a machine that a step stops; and a machine of a pool alone."""
+        names = ("late-core", "a57-a53", "qemu-max", "late-core", "big-little")
+        texts = [(TOP / f"examples/{name}.txt").read_bytes() for name in names]
+        refused, panic = ((TOP / f"examples/{name}.txt").read_bytes() for name in ("refused", "panic"))
+        for pool in (texts, texts[:2], texts[1:2] * 64, texts[1:2] * 65, [*texts, refused], [*texts, panic, *texts]):
+            answer = self.same_run("pool", b"".join(pool))
+            self.page.put(b"".join(pool))
+            if answer.returncode == 0:
+                reports = [text.read_report(self.run("report", machine).stdout) for machine in pool]
+                drawn.compare_pool(self.page.drawn(), answer, reports)
+            else:
+                drawn.same("refusal", self.page.drawn()["refusal"], answer.stderr.decode().strip())
+        line = sum(machine.count(b"\n") for machine in texts) + int(re.search(rb"line (\d+)", self.refusal(refused))[1])
+        self.page.put(b"".join([*texts, refused]))
+        drawn.same("marked line", self.page.drawn()["line"], str(line))
+        self.page.put(b"".join([*texts, panic]))
+        self.page.act("[...document.querySelectorAll('#refusal button')].at(-1).click()")
+        drawn.same("machine alone", self.page.ask("document.getElementById('text').value").encode(), panic)
+        self.page.act("document.getElementById('back').click()")
+        return "6 pools: machines by fields, those that limit marked, refusals at their lines, and a machine alone"
+
+    def refusal(self, data):
+        return self.run("report", data).stderr
+
+    def audits(self):
+        """A second image: the patched one, one with another byte, and one that is too short."""
+        given, image = images.document(1 << 16, 50, 5)
+        patched = self.run("patch", given + image).stdout
+        place = 4096
+        changed = patched[:place] + bytes([patched[place] ^ 1]) + patched[place + 1 :]
+        cases = (patched, 0, "Yes: "), (changed, 12, f"No: byte {place} "), (patched[:-1], 3, "armcaps: image short")
+        for second, status, wanted in cases:
+            drawn.same("status of audit", self.run("audit", given + image + second).returncode, status)
+            with tempfile.TemporaryDirectory() as folder:
+                kernel, other = pathlib.Path(folder) / "kernel.txt", pathlib.Path(folder) / "second.img"
+                kernel.write_bytes(given + image)
+                other.write_bytes(second)
+                self.page.choose(kernel)
+                self.page.ask("void (document.getElementById('command').value = 'audit', showCommand())")
+                self.page.browser.choose("#second", other)
+                self.page.wait("state.second !== null")
+            self.page.ask("void document.getElementById('patch').click()")
+            self.page.wait("document.body.dataset.patched === String(state.turn)")
+            told = self.page.ask("document.getElementById('patch-answer').textContent")
+            drawn.same("audit", told[: len(wanted)], wanted)
+        return "an audit of the patched image, of one with another byte, and of a shorter one"
+
     def words(self):
         """Words that are no command, and `demo`, which reads nothing."""
         cases = ["", "report x", "mrs 0", "mrs 0 0xD5380600", "demo 7 12", "Report", "demo 0 65", "  report  "]

@@ -6,7 +6,7 @@ HEAD = ["field", "bits", "rule", "cores", "system", "users", "why"]
 LEGEND = {
     "cores": "the admitted cores' own values; 0-6/2 are the cores 0, 2, 4 and 6, and 0-19:4/8 the first 4 of each 8",
     "cores differ": "the admitted cores differ, in a field in which the report says `varies`",
-    "cores differ, as they may": "they differ, in a field that is not strict",
+    "cores differ (allowed)": "they differ in a field that is not strict",
     "limited": "some admitted core has another value than the system's, which is what all can keep to",
     "hidden": "users see the field's safe value and not the system's",
     "override forced": "the command line holds the field at a value that the boot core has not",
@@ -59,7 +59,7 @@ class Story:
         note = self.report.notes.get(fields.name_of(field))
         why = [f"override {note}"] if note else []
         if len(values) > 1:
-            why.append("cores differ" if field.strict else "cores differ, as they may")
+            why.append("cores differ" if field.strict else "cores differ (allowed)")
         if values != {system} and note != "forced":
             why.append("limited")
         if user != system and not field.visible:

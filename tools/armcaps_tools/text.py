@@ -5,9 +5,9 @@ import dataclasses
 import pathlib
 import sys
 
-from armcaps import Unreadable, read_report
+from armcaps import Unreadable, read_pool, read_report
 
-__all__ = ["Machine", "Unreadable", "load", "machine", "number", "read_report", "spans"]
+__all__ = ["Machine", "Unreadable", "load", "machine", "number", "read_pool", "read_report", "spans"]
 
 
 def load(name):

@@ -80,13 +80,14 @@ const CELL_WORDS = {
 };
 
 /** A value of a field; `whose` it is and its kind are told to who does not see its colour. */
-function valueCell(name, index, value, kind, whose, words = CELL_WORDS) {
+function valueCell({ name, index, at = null, value, kind, whose }, words = CELL_WORDS) {
   const told = `${name}, ${whose}: ${value}${words[kind]}`;
-  return element("td", { class: `value ${kind}`, tabindex: -1, "data-row": index, "aria-label": told }, String(value));
+  const marked = { class: `value ${kind}`, tabindex: -1, "data-row": index, "data-at": at, "aria-label": told };
+  return element("td", marked, String(value));
 }
 
 function rowOf(row, index, kinds) {
-  const cell = (value, kind, whose) => valueCell(row.name, index, value, kind, whose);
+  const cell = (value, kind, whose) => valueCell({ name: row.name, index, value, kind, whose });
   const system = row.note === "forced" ? "overridden" : "decided", users = row.field.visible ? system : "hidden";
   return element("tr", { "data-field": row.name },
     element("th", { scope: "row" }, row.name),

@@ -67,7 +67,7 @@ function kindsOfMachines(machines) {
 const machinesInWords = (numbers) => `${numbers.length > 1 ? "machines" : "machine"} ${spans(numbers)}`;
 const capitalised = (words) => words[0].toUpperCase() + words.slice(1);
 
-/** The fields that a machine limits: those in which machines differ, and whose value comes with it. */
+/** The fields that a machine limits first: those in which machines differ, and whose value comes with it. */
 const limitedBy = (numbers) => poolRows().filter((row) => row.differs && numbers.includes(row.limit));
 
 function drawMachines() {
@@ -83,7 +83,7 @@ function drawMachines() {
       element("h3", {}, capitalised(machinesInWords(numbers))),
       element("p", { class: "mono" }, [...names].join(", ")),
       element("p", {}, `${cores} of ${own.cores.length} cores admitted.`,
-        limits ? ` Limits ${limits} fields.` : ""),
+        limits ? ` First to limit ${limits} fields.` : ""),
       element("p", {}, buttonOf(`Look at machine ${machine.number}`, look), " ", withoutButton(numbers)));
   });
   fill("cores", element("ul", { class: "cards" }, cards));
@@ -121,9 +121,9 @@ function poolRows() {
     const name = nameOf(field), limit = baseline.limits[name];
     const value = (words) => fieldValue(field, words[field.register] ?? 0n);
     const values = kinds.map((kind) => value(kind.machine.report.system)), differs = new Set(values).size > 1;
-    const kindOfCell = (kind) => (!differs ? "equal" : kind.numbers.includes(limit) ? "limits" : "differs");
-    const cells = kinds.map(kindOfCell), isQuiet = !differs;
-    return { field, name, values, cells, differs, limit, system: value(baseline.system), isQuiet };
+    const system = value(baseline.system), isLimit = (at) => values[at] === system || kinds[at].numbers.includes(limit);
+    const cells = kinds.map((_, at) => (!differs ? "equal" : isLimit(at) ? "limits" : "differs"));
+    return { field, name, values, cells, differs, limit, system, isQuiet: !differs };
   });
 }
 
@@ -133,14 +133,15 @@ function drawPool(rows) {
   const heads = kinds.map(({ numbers }) => {
     return element("th", { scope: "col", "data-machines": numbers.join(" ") }, machinesInWords(numbers));
   });
-  const cells = [...["field", "bits", "rule"].map(plain), ...heads, ...["all", "limited by"].map(plain)];
+  const cells = [...["field", "bits", "rule"].map(plain), ...heads, ...["all", "limited first by"].map(plain)];
   const lineOf = (row, index) => element("tr", { "data-field": row.name },
     element("th", { scope: "row" }, row.name),
     [bitsInWords(row.field), ruleInWords(row.field)].map((words) => element("td", {}, words)),
     row.values.map((value, at) => {
-      return valueCell(row.name, index, value, row.cells[at], machinesInWords(kinds[at].numbers), POOL_WORDS);
+      const whose = machinesInWords(kinds[at].numbers);
+      return valueCell({ name: row.name, index, at, value, kind: row.cells[at], whose }, POOL_WORDS);
     }),
-    valueCell(row.name, index, row.system, "decided", "all machines", POOL_WORDS),
+    valueCell({ name: row.name, index, value: row.system, kind: "decided", whose: "all machines" }, POOL_WORDS),
     element("td", { "data-limit": row.limit }, row.differs ? `machine ${row.limit}` : ""));
   drawGrid("Fields by machines", element("thead", {}, element("tr", {}, cells)), rows.map(lineOf),
     (index) => fill("detail", poolFieldInWords(rows[index])));
