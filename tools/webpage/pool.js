@@ -37,6 +37,7 @@ function readPool(output) {
 async function showPool(bytes, texts) {
   const turn = state.turn, answer = await engine.run("pool", [bytes]);
   if (turn !== state.turn) return;
+  if (answer.status === 2) return notPooled();
   drawGutter(null);
   if (answer.status !== 0) return showRefusedPool(bytes, texts, answer);
   const machines = [];
@@ -51,6 +52,12 @@ async function showPool(bytes, texts) {
   Object.assign(state, { pool, report: null, machine: null });
   drawMachines();
   drawFields();
+}
+
+/** What a program that knows no pools says of the input. */
+function notPooled() {
+  document.body.classList.remove("pool");
+  return showText(textBytes());
 }
 
 /** Machines by equal words of their systems, each kind by the first of them. */

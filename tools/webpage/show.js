@@ -153,8 +153,8 @@ function tellRefusal(bytes, answer, line, remedy, more = "") {
   if (!state.isEdit) forgetDrawn();
   const isKept = state.report !== null || state.pool !== null, why = WHY[answer.status] ?? "the run did not end";
   document.body.classList.toggle("stale", isKept);
-  $("summary").textContent = `No ${answer.status === 7 ? "baseline" : "machine"}: ${why}.${
-    isKept ? " What follows is of the text before." : ""}`;
+  const what = document.body.classList.contains("pool") ? "baseline" : "machine";
+  $("summary").textContent = `No ${what}: ${why}.${isKept ? " What follows is of the text before." : ""}`;
   $("summary").classList.add("bad");
   if (line) drawGutter(line);
   $("refusal").hidden = false;
