@@ -12,11 +12,13 @@ READ = """(() => {
     [row.dataset.field, all("td.value", row).map((cell) => Number(cell.textContent))]);
   const machines = all("#matrix thead th[data-machines]").map((cell) => numbers(cell.dataset.machines));
   const limits = all("#matrix td[data-limit]").map((cell) => Number(cell.dataset.limit));
-  const placesOf = (row) => all("td.limits", row).map((cell) => Number(cell.dataset.at));
+  const placesOf = (row) =>
+    all("td.limits", row).map((cell) => Number(cell.dataset.at));
   const marked = all("#matrix tbody tr").map(placesOf);
   const tags = all("#capabilities ul").map((list) => all("li:not(.lost)", list).map((item) => item.textContent));
   return {
-    cores: all("#cores .card[data-cores]").map(({ dataset: { cores, state, cause } }) => [numbers(cores), state, cause]),
+    cores: all("#cores .card[data-cores]").map(({ dataset }) =>
+      [numbers(dataset.cores), dataset.state, dataset.cause]),
     lost: all("#capabilities .lost").map((item) => item.dataset.lost),
     machines, limits, marked, head, rows, tags, held,
     refusal: document.querySelector("#refusal strong")?.textContent ?? "",

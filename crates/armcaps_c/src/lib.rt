@@ -55,6 +55,25 @@ fn hand_over(
     0
 }
 
+/// The call for C: runs the command that `line` has, cut at spaces, over `input`, as `armcaps_top::run` would. The
+/// output goes to `out` and its length to `out_len`, the line of the error stream to `err`, as much of it as there is
+/// room for, and its whole length to `err_len`. `library/armcaps.h` says what C owes for the pointers.
+///
+/// # Errors
+///
+/// Each status but 0 leaves `out` as it was.
+///
+/// - 1: a word of the line is not UTF-8; both lengths are 0.
+/// - 5: `out` has too little room, and `out_len` says how much is wanted.
+/// - 6: there was no memory.
+/// - 2, 3 and 7 to 12: those of the program. 4 never comes.
+///
+/// # Example
+///
+/// ```text
+/// let status = armcaps_run(alloc, b"report", text, &mut out, &mut out_len, &mut err, &mut err_len);
+/// if status == 0 { /* out[..out_len] is the report */ }
+/// ```
 #[unsafe(no_mangle)]
 pub extern "C" fn armcaps_run(
     alloc: Global,
