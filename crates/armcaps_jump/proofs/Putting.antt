@@ -1,5 +1,5 @@
 -- The bytes of a piece, and the sites that lie in it.
-use Rattle.std.proofs.Common.{◌≡◌, ◌+◌, ◌-◌, ◌*◌, ◌/◌, ◌%◌, ◌<◌, ◌≤◌, ◌∷◌, ◌++◌, ◌&&◌, ℕ, List, [], arith, cond, false, get_or, inl, inr, length, nat_le, nat_lt, refl, take, true}
+use Rattle.std.proofs.Common.{◌≡◌, ◌+◌, ◌-◌, ◌*◌, ◌/◌, ◌%◌, ◌<◌, ◌∷◌, ◌++◌, ◌&&◌, ℕ, List, [], arith, cond, false, get_or, inl, inr, length, nat_le, nat_lt, refl, take, true}
 use Rattle.std.proofs.lemmas.Bool.{cases_Bool}
 use Rattle.std.proofs.lemmas.Bool.Decides.{nat_tests}
 use Rattle.std.proofs.lemmas.List.{take_more}
@@ -42,11 +42,3 @@ pub byte_by-more : (sites : List Site) (k : ℕ) (d : Site) (place original : �
     ≡ cond (has_byte place (get_or sites k d)) (byte_of (get_or sites k d).word (place % 4)) (byte_by (take k sites) place original)
 byte_by-more sites k d place original within =
     rw (take_more sites k d within) (byte_by-push (take k sites) (get_or sites k d) place original)
-
--- a site before a piece or behind it has none of its bytes
-pub not_before : (from place : ℕ) (site : Site) → from % 4 ≡ 0 → from ≤ place → site.place < from
-    → has_byte place site ≡ false
-not_before from place site begins low before = grind (arith, nat_tests)
-
-pub not_behind : (to place : ℕ) (site : Site) → place < to → to ≤ site.place → has_byte place site ≡ false
-not_behind to place site high behind = grind (arith, nat_tests)

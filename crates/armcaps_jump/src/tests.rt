@@ -1,4 +1,5 @@
 use super::*;
+use crate::judging::judge;
 use armcaps_image::put_word;
 use armcaps_insn::NOP;
 use armcaps_io::MemSink;
@@ -174,4 +175,40 @@ fn tables_lie_within(rt: HostRuntime) {
         let refused = Jumps::check(rt.alloc(), &image, table, count).err();
         assert_eq!(rt; refused, expected, "of {table} {count}");
     }
+}
+
+// Entries over four pieces in no order, some of them with one code place: what is written is what comes of putting one
+// word after the other, as the table has them.
+#[test]
+fn words_are_put_in_the_order_of_the_table(rt: HostRuntime) -> Result<(), Fail> {
+    let mut image = [0x11; 0x3004];
+    for number in 0..64u32 {
+        let place = 16 * number;
+        let code = 0x400 + number * 37 % 52 * 216;
+        put(&mut image, place as usize, code - place);
+        put(&mut image, place as usize + 4, code + 4 * number - place);
+        put(
+            &mut image,
+            place as usize + 8,
+            0x3000 - place - 8 + number % 3 % 2,
+        );
+        put(&mut image, place as usize + 12, 0);
+    }
+    put(&mut image, 0x3000, 1);
+    let Ok(jumps) = Jumps::check(rt.alloc(), &image, 0, 64) else {
+        assert!(rt; false);
+        return Ok(());
+    };
+    let mut sink = MemSink::new(rt.alloc(), 0x3004, 4096, vec![in rt.alloc()]?)?;
+    assert_eq!(rt; jumps.write(&image, &mut sink), Ok(()));
+    let mut expected = image;
+    for number in 0..64usize {
+        let entry = JumpEntry::read(&image[16 * number..], 16 * number as u64);
+        match judge(&entry, &image) {
+            Ok(site) => put(&mut expected, site.place as usize, site.word),
+            Err(kind) => assert_eq!(rt; kind, 0, "of {number}"),
+        }
+    }
+    assert_eq!(rt; sink.bytes(), expected.as_slice());
+    Ok(())
 }
