@@ -5,3 +5,6 @@ pub mod Searching
 pub mod Extending
 pub mod Limits
 mod Worked
+pub mod Pieces
+pub mod Traces
+pub mod Tallies

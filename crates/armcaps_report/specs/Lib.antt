@@ -5,3 +5,6 @@ pub mod Texts
 pub mod Lines
 pub mod Report
 pub mod Pooled
+pub mod Trace
+pub mod UserReads
+pub mod Demo

@@ -4,6 +4,7 @@
 mod capabilities;
 mod causes;
 mod cores;
+mod demo;
 mod fields;
 mod group;
 mod groups;
@@ -13,15 +14,22 @@ mod pooled;
 mod registers;
 mod reporting;
 mod settled;
+mod standing;
 #[cfg(test)]
 mod tests;
 mod text;
+mod tracing;
+mod user_reads;
 mod varying;
 
 pub use causes::push_cause;
+pub use demo::{Counts, demo_lines};
 pub use group::Group;
 pub use pooled::pool_report;
 pub use registers::push_register;
 pub use reporting::report;
 pub use settled::has_report;
-pub use text::{NoRoom, Text, push_after, push_between, push_number};
+pub use standing::count_cores;
+pub use text::{NoRoom, Text, push_after, push_between, push_kind, push_number, push_part};
+pub use tracing::trace;
+pub use user_reads::{ReadRefused, push_read_refused, read_line};

@@ -3,6 +3,7 @@ ghost use Rattle.armcaps_enc.specs.declared.register.SysReg.TheVariants.{CtrEl0}
 ghost use Rattle.armcaps_tables.specs.Overriding.{override_of};
 
 mod differing;
+mod lines;
 mod pooled;
 
 use super::*;

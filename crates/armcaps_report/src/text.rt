@@ -1,6 +1,6 @@
 //! Texts that are made part by part: a `String`, and a buffer of a fixed size.
 
-ghost use Rattle.std.specs.Prelude.{ℕ, ◌+◌, ◌++◌, List, string_bytes};
+ghost use Rattle.std.specs.Prelude.{ℕ, ◌+◌, ◌++◌, List, codes, string_bytes};
 ghost use Rattle.std.specs.Fmt.{decimal};
 ghost use Rattle.armcaps_report.specs.Extending.{Extends};
 
@@ -84,4 +84,37 @@ pub fn push_number<T: Text>(text: &mut T, number: u64) -> Result<(), T::Error>
     ensures { Extends result T.refused_from (T.bytes text.old) (T.bytes text.new) (decimal number) }
 {
     text.append(Buffer::new().format(number))
+}
+
+/// Adds a number behind a text, and the kind by which it is refused.
+pub fn push_kind<T: Text>(
+    text: &mut T,
+    before: &str,
+    number: u32,
+    kind: u8,
+    word: &str,
+) -> Result<(), T::Error>
+    ensures { Extends result T.refused_from (T.bytes text.old) (T.bytes text.new)
+        (before.now ++ decimal number ++ codes ": kind " ++ decimal kind ++ codes " " ++ word.now) }
+{
+    push_between(text, before, u64::from(number), ": kind ")?;
+    push_number(text, u64::from(kind))?;
+    text.append(" ")?;
+    text.append(word)
+}
+
+/// Adds how much there is of a number, between two texts.
+pub fn push_part<T: Text>(
+    text: &mut T,
+    before: &str,
+    got: u64,
+    of: u64,
+    after: &str,
+) -> Result<(), T::Error>
+    ensures { Extends result T.refused_from (T.bytes text.old) (T.bytes text.new)
+        (before.now ++ decimal got ++ codes " of " ++ decimal of ++ after.now) }
+{
+    push_between(text, before, got, " of ")?;
+    push_number(text, of)?;
+    text.append(after)
 }

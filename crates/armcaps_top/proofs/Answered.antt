@@ -15,7 +15,8 @@ use Rattle.armcaps_boot.specs.World.{World}
 use Rattle.armcaps_text.specs.Document.{Reading}
 use Rattle.armcaps_text.specs.Sound.{IsSound}
 use Rattle.armcaps_top.specs.Answer.{unless_stopped}
-use Rattle.armcaps_top.specs.Bringing.{IsAt, IsBegun}
+use Rattle.armcaps_boot.specs.Bringing.{IsAt}
+use Rattle.armcaps_top.specs.Bringing.{IsBegun}
 use Rattle.armcaps_top.specs.Inside.{IsHaltOf, IsNotUp, IsThrough, IsUp}
 use Rattle.armcaps_top.specs.declared.ending.Ending.{Ending}
 use Rattle.armcaps_top.specs.declared.ending.Ending.TheVariants.{Done, ReadFault, WriteFault, Memory, NoOutput}

@@ -33,7 +33,7 @@ use Rattle.armcaps_top.specs.declared.commands.Command.{Command}
 use Rattle.armcaps_top.specs.declared.commands.Command.TheVariants.{Ask, Patch, Elf, Jump, Audit, Demo}
 use Rattle.armcaps_top.specs.declared.commands.Query.TheVariants.{Report, Mrs, Trace}
 use Rattle.armcaps_top.specs.declared.commands.jump.LabelsRefused.TheVariants.{TableOutside, Entry}
-use Rattle.armcaps_top.specs.declared.commands.mrs.ReadRefused.{ReadRefused}
+use Rattle.armcaps_report.specs.declared.user_reads.ReadRefused.{ReadRefused}
 use Rattle.armcaps_top.specs.declared.reason.Reason.{Reason}
 use Rattle.armcaps_top.specs.declared.reason.Reason.TheVariants.{Usage, Refused, Panicked, NotPatched, NotRead, NotElf, NotLoaded, NotJumped, Differs}
 use Rattle.armcaps_top.specs.declared.refusal.Refusal.{Refusal}

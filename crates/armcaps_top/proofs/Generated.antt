@@ -10,7 +10,8 @@ use Rattle.armcaps_text.specs.Generator.{generated_reading}
 use Rattle.armcaps_generate.specs.LargeImage.{generated_image}
 use Rattle.armcaps_text.specs.Sound.{IsSound}
 use Rattle.armcaps_top.specs.Answer.{output_in}
-use Rattle.armcaps_top.specs.Demo.{counts_of, demo_lines, demo_output, generated_document}
+use Rattle.armcaps_report.specs.Demo.{demo_lines}
+use Rattle.armcaps_top.specs.Demo.{counts_of, demo_output, generated_document}
 use Rattle.armcaps_top.specs.Inside.{IsThrough}
 use Rattle.armcaps_top.specs.declared.commands.Command.TheVariants.{Demo}
 

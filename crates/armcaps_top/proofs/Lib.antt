@@ -1,7 +1,6 @@
 pub mod Answered
 pub mod Audited
 pub mod AuditedImages
-pub mod Brought
 pub mod CoreCounts
 pub mod Covered
 pub mod DocumentFields
@@ -21,9 +20,4 @@ pub mod Promising
 pub mod ShortLines
 pub mod Sites
 pub mod SmallNumbers
-pub mod Steps
-pub mod Tallies
-pub mod Texts
-pub mod Traces
 pub mod Unpatched
-pub mod Written

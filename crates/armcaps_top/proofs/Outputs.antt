@@ -23,7 +23,7 @@ use Rattle.armcaps_board.proofs.Turns.{none_in_flight}
 use Rattle.armcaps_boot.proofs.Holding.{state_of-boot, state_of-other}
 use Rattle.armcaps_boot.proofs.ShorterHistories.{state_at-after}
 use Rattle.armcaps_report.specs.Settled.{AreSettled, is_settled}
-use Rattle.armcaps_top.proofs.Steps.{made_whole}
+use Rattle.armcaps_boot.proofs.StepByStep.{made_whole}
 
 -- where no step stopped the machine, all are made
 pub whole_after : (board : Board) (steps : List Event) (world : World) → halt_of board steps ≡ None → IsAfter board (steps_made board steps) world

@@ -22,13 +22,13 @@ use Rattle.armcaps_top.specs.Document.{refused_text}
 use Rattle.armcaps_top.specs.Elf.{elf_entry_text, elf_kind_text, elf_word, elf_words}
 use Rattle.armcaps_top.specs.Ending.{ending_text, halt_text, reason_text}
 use Rattle.armcaps_top.specs.Jump.{label_kind_word, labels_refused_text}
-use Rattle.armcaps_top.specs.Mrs.{eight_digits, read_refused_text}
+use Rattle.armcaps_report.specs.UserReads.{eight_digits, read_refused_text}
 use Rattle.armcaps_top.specs.Patch.{entry_text}
 use Rattle.armcaps_top.specs.Telling.{ending_line}
 use Rattle.armcaps_top.specs.declared.commands.jump.LabelsRefused.{LabelsRefused}
 use Rattle.armcaps_top.specs.declared.commands.jump.LabelsRefused.TheVariants as labels_refused
-use Rattle.armcaps_top.specs.declared.commands.mrs.ReadRefused.{ReadRefused}
-use Rattle.armcaps_top.specs.declared.commands.mrs.ReadRefused.TheVariants.{NotAdmitted, Undefined}
+use Rattle.armcaps_report.specs.declared.user_reads.ReadRefused.{ReadRefused}
+use Rattle.armcaps_report.specs.declared.user_reads.ReadRefused.TheVariants.{NotAdmitted, Undefined}
 use Rattle.armcaps_top.specs.declared.ending.Ending.{Ending}
 use Rattle.armcaps_top.specs.declared.ending.Ending.TheVariants.{Done, ReadFault, WriteFault, Memory, NoOutput}
 use Rattle.armcaps_top.specs.declared.reason.Reason.{Reason}

@@ -16,12 +16,12 @@ use Rattle.armcaps_top.specs.Jump.{jump_output}
 use Rattle.armcaps_top.specs.Elf.{elf_output}
 use Rattle.armcaps_top.specs.Mrs.{read_output}
 use Rattle.armcaps_top.specs.Patch.{patch_output}
-use Rattle.armcaps_top.specs.Trace.{trace_of}
+use Rattle.armcaps_report.specs.Trace.{trace_of}
 use Rattle.armcaps_top.specs.declared.commands.Command.{Command}
 use Rattle.armcaps_top.specs.declared.commands.Command.TheVariants.{Ask, Patch, Elf, Jump, Audit, Demo}
 use Rattle.armcaps_top.specs.declared.commands.Query.{Query}
 use Rattle.armcaps_top.specs.declared.commands.Query.TheVariants.{Report, Mrs, Trace}
-use Rattle.armcaps_top.specs.declared.commands.mrs.ReadRefused.{ReadRefused}
+use Rattle.armcaps_report.specs.declared.user_reads.ReadRefused.{ReadRefused}
 use Rattle.armcaps_top.specs.declared.reason.Reason.{Reason}
 use Rattle.armcaps_top.specs.declared.reason.Reason.TheVariants.{Usage, Refused, Panicked, NotRead}
 use Rattle.armcaps_top.specs.declared.refusal.Refusal.{Refusal}

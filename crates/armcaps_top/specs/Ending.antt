@@ -6,7 +6,7 @@ use Rattle.armcaps_report.specs.Texts.{cause_text}
 use Rattle.armcaps_top.specs.Document.{refused_text}
 use Rattle.armcaps_top.specs.Jump.{labels_refused_text}
 use Rattle.armcaps_top.specs.Elf.{elf_entry_text, elf_kind_text}
-use Rattle.armcaps_top.specs.Mrs.{read_refused_text}
+use Rattle.armcaps_report.specs.UserReads.{read_refused_text}
 use Rattle.armcaps_top.specs.Patch.{entry_text}
 use Rattle.armcaps_top.specs.declared.ending.Ending.{Ending}
 use Rattle.armcaps_top.specs.declared.ending.Ending.TheVariants.{Done, ReadFault, WriteFault, Memory, NoOutput}

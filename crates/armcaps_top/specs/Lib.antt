@@ -1,7 +1,6 @@
 pub mod Document
 pub mod Commands
 pub mod Mrs
-pub mod Trace
 pub mod Patch
 pub mod Elf
 pub mod Jump

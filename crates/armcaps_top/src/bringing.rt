@@ -1,19 +1,16 @@
 //! A machine is brought up.
 
-ghost use Rattle.std.specs.Prelude.{◌≡◌, ◌≢◌, ◌<◌, ◌+◌, ◌++◌, ◌∷◌, [], IfOk, IfErr, Err, length, reverse, slice_index_or};
-ghost use Rattle.armcaps_boot.specs.Admission.{halt_of, steps_made};
-ghost use Rattle.armcaps_boot.specs.After.{IsAfter, reply_of};
-ghost use Rattle.armcaps_board.specs.declared.event.Event.TheVariants as Event;
+ghost use Rattle.std.specs.Prelude.{◌≡◌, ◌≢◌, ◌++◌, ◌∷◌, [], IfOk, IfErr, Err, length};
 ghost use Rattle.armcaps_text.specs.Document.{reading_of};
 ghost use Rattle.armcaps_text.specs.Sound.{IsSound};
-ghost use Rattle.armcaps_top.specs.Bringing.{IsAt, IsBegun, steps_before};
+ghost use Rattle.armcaps_top.specs.Bringing.{IsBegun};
 ghost use Rattle.armcaps_top.specs.Inside.{IsHaltOf, IsNotUp, IsUp};
 
 use crate::ending::Ending;
 use crate::reason::Reason;
 use armcaps_alt::Names;
-use armcaps_boot::laws::{documents_are_safe, machines_begin_with_no_step, steps_are_answered};
-use armcaps_boot::{Boot, Event, Halt, Reply, events_of};
+use armcaps_boot::laws::{documents_are_safe, machines_begin_with_no_step};
+use armcaps_boot::{Boot, Event, Halt, bring_up, events_of};
 use armcaps_text::Machine;
 use std::alloc::{AllocError, Global};
 
@@ -35,34 +32,6 @@ pub fn begin(alloc: Global, machine: Machine) -> Result<(Boot, Vec<Event>, Names
     machines_begin_with_no_step();
     documents_are_safe();
     Ok((boot, events, machine.names))
-}
-
-/// Makes the step at this index. It is never refused.
-pub fn make_step(boot: &mut Boot, events: &[Event], index: usize) -> Reply
-    requires inside { index < length events.now }
-    requires at { IsAt index events.now boot.old.board boot.old }
-    ensures reply { result ≡ reply_of boot.old.board (steps_before index events.now)
-        (slice_index_or events.now index (Event.Check 0)) }
-    ensures after { IsAfter boot.old.board (steps_before (index + 1) events.now) boot.new }
-{
-    boot.facts_hold();
-    steps_are_answered();
-    boot.step(events[index]).unwrap()
-}
-
-/// Makes steps in their order, up to one that stops the machine, and says what stopped it.
-pub fn bring_up(boot: &mut Boot, events: &[Event]) -> Option<Halt>
-    requires { IsAt 0 events.now boot.old.board boot.old }
-    ensures halt { result ≡ halt_of boot.old.board (reverse events.now) }
-    ensures machine { IsAfter boot.old.board (steps_made boot.old.board (reverse events.now)) boot.new }
-{
-    for index in 0..events.len() {
-        make_step(boot, events, index);
-        if let Some(halt) = boot.halted() {
-            return Some(halt);
-        }
-    }
-    None
 }
 
 /// Leaves a machine in `machines`, and says how the run ends where a step stopped it.

@@ -1,10 +1,10 @@
 //! Why a command writes nothing.
 
 use crate::commands::jump::LabelsRefused;
-use crate::commands::mrs::ReadRefused;
 use crate::refusal::Refusal;
 use armcaps_alt::PatchKind;
 use armcaps_boot::Halt;
+use armcaps_report::ReadRefused;
 
 /// Why a command writes nothing, which its words and its input alone decide.
 #[derive(Clone, Copy)]

@@ -4,26 +4,27 @@ ghost use Rattle.std.specs.Prelude.{◌≡◌, ◌++◌, codes};
 ghost use Rattle.std.specs.Fmt.{decimal};
 ghost use Rattle.armcaps_report.specs.Extending.{Extends};
 ghost use Rattle.armcaps_report.specs.Texts.{cause_text};
+ghost use Rattle.armcaps_report.specs.UserReads.{read_refused_text};
 ghost use Rattle.armcaps_top.specs.Document.{refused_text};
 ghost use Rattle.armcaps_top.specs.Elf.{elf_entry_text, elf_kind_text};
 ghost use Rattle.armcaps_top.specs.Ending.{ending_text, halt_text, reason_text};
 ghost use Rattle.armcaps_top.specs.Jump.{label_kind_word, labels_refused_text};
-ghost use Rattle.armcaps_top.specs.Mrs.{read_refused_text};
 ghost use Rattle.armcaps_top.specs.Patch.{entry_text};
 ghost use Rattle.armcaps_top.specs.Telling.{Tells, ending_line};
-ghost use Rattle.armcaps_top.specs.declared.commands.mrs.ReadRefused.TheVariants as read_refused;
 ghost use Rattle.armcaps_top.specs.declared.refusal.Refusal.TheVariants as Refusal;
 
 use crate::commands::elf::elf_word;
 use crate::commands::jump::LabelsRefused;
-use crate::commands::mrs::{ReadRefused, push_word};
 use crate::ending::Ending;
 use crate::reason::Reason;
 use crate::refusal::Refusal;
 use armcaps_alt::PatchKind;
 use armcaps_boot::{Cause, Halt};
 use armcaps_io::{Sink, write_whole};
-use armcaps_report::{Text, push_after, push_between, push_cause, push_number};
+use armcaps_report::{
+    ReadRefused, Text, push_after, push_between, push_cause, push_kind, push_part,
+    push_read_refused,
+};
 use armcaps_text::TextKind;
 use arrayvec::ArrayString;
 
@@ -215,30 +216,7 @@ fn push_not_read<T: Text>(text: &mut T, unread: ReadRefused) -> Result<(), T::Er
         (codes "mrs: " ++ read_refused_text unread) }
 {
     text.append("mrs: ")?;
-    match unread {
-        ReadRefused::NotAdmitted { core } => push_absence(text, core),
-        ReadRefused::Undefined { word } => push_undefined(text, word),
-    }
-}
-
-// Adds which core is not admitted.
-#[tactic(auto, unfolding(crate::specs::Mrs::read_refused_text))]
-fn push_absence<T: Text>(text: &mut T, core: u32) -> Result<(), T::Error>
-    ensures { Extends result T.refused_from (T.bytes text.old) (T.bytes text.new)
-        (read_refused_text (read_refused.NotAdmitted core)) }
-{
-    push_between(text, "core ", u64::from(core), " not admitted")
-}
-
-// Adds which word reads nothing.
-#[tactic(auto, unfolding(crate::specs::Mrs::read_refused_text))]
-fn push_undefined<T: Text>(text: &mut T, word: u32) -> Result<(), T::Error>
-    ensures { Extends result T.refused_from (T.bytes text.old) (T.bytes text.new)
-        (read_refused_text (read_refused.Undefined word)) }
-{
-    text.append("word 0x")?;
-    push_word(text, word)?;
-    text.append(" undefined")
+    push_read_refused(text, unread)
 }
 
 // Adds a core that stops a machine, behind a text, and its cause.
@@ -248,37 +226,4 @@ fn push_stop<T: Text>(text: &mut T, before: &str, core: u32, cause: Cause) -> Re
 {
     push_between(text, before, u64::from(core), ": ")?;
     push_cause(text, cause)
-}
-
-// Adds a number behind a text, and the kind by which it is refused.
-fn push_kind<T: Text>(
-    text: &mut T,
-    before: &str,
-    number: u32,
-    kind: u8,
-    word: &str,
-) -> Result<(), T::Error>
-    ensures { Extends result T.refused_from (T.bytes text.old) (T.bytes text.new)
-        (before.now ++ decimal number ++ codes ": kind " ++ decimal kind ++ codes " " ++ word.now) }
-{
-    push_between(text, before, u64::from(number), ": kind ")?;
-    push_number(text, u64::from(kind))?;
-    text.append(" ")?;
-    text.append(word)
-}
-
-// Adds how much there is of a number, between two texts.
-fn push_part<T: Text>(
-    text: &mut T,
-    before: &str,
-    got: u64,
-    of: u64,
-    after: &str,
-) -> Result<(), T::Error>
-    ensures { Extends result T.refused_from (T.bytes text.old) (T.bytes text.new)
-        (before.now ++ decimal got ++ codes " of " ++ decimal of ++ after.now) }
-{
-    push_between(text, before, got, " of ")?;
-    push_number(text, of)?;
-    text.append(after)
 }

@@ -1,152 +1,17 @@
 //! `trace`: what came of each step, and the system registers that it changed.
 
-ghost use Rattle.std.specs.Prelude.{◌≡◌, [], ◌<◌, ◌+◌, ◌++◌, List, Ok, Err, None, IsOk, IfOk, OnOk, length, reverse, slice_index_or, string_bytes};
-ghost use Rattle.std.specs.List.{flat_map};
-ghost use Rattle.armcaps_enc.specs.Registers.{tracked};
-ghost use Rattle.armcaps_tables.specs.Core.{Core};
-ghost use Rattle.armcaps_tables.specs.Overriding.{FieldOverrides};
-ghost use Rattle.armcaps_sanit.specs.System.{IsSystemOf};
-ghost use Rattle.armcaps_boot.specs.Admission.{halt_of, steps_made};
-ghost use Rattle.armcaps_boot.specs.After.{IsAfter};
-ghost use Rattle.armcaps_board.specs.declared.event.Event.TheVariants as Event;
-ghost use Rattle.armcaps_top.specs.Bringing.{IsAt, steps_before};
+ghost use Rattle.std.specs.Prelude.{string_bytes};
 ghost use Rattle.armcaps_text.specs.Document.{reading_of};
 ghost use Rattle.armcaps_top.specs.Inside.{Answers, IsReady, as_bytes};
 ghost use Rattle.armcaps_top.specs.declared.commands.Command.TheVariants as Command;
-ghost use Rattle.armcaps_top.specs.Trace.{changed_line, changed_lines, reply_text, step_line, step_lines, step_text, trace_of};
 ghost use Rattle.armcaps_top.specs.declared.commands.Query.TheVariants as Query;
 
-use crate::bringing::{begin, leave, make_step};
+use crate::bringing::{begin, leave};
 use crate::ending::Ending;
-use armcaps_boot::laws::sets_are_those_of_the_steps;
-use armcaps_boot::{Boot, Event, Halt, Reply};
-use armcaps_enc::SysReg;
-use armcaps_report::{push_cause, push_register};
-use armcaps_sanit::System;
+use armcaps_boot::Boot;
+use armcaps_report::trace;
 use armcaps_text::Machine;
-use std::alloc::{AllocError, Global};
-use std::fmt::Write;
-
-// Adds a step.
-fn push_event(text: &mut String, event: Event) -> Result<(), AllocError>
-    ensures { OnOk result (string_bytes text.new ≡ string_bytes text.old ++ step_text event) }
-{
-    match event {
-        Event::Check(core) => write!(text, "check {core}"),
-        Event::Local(core) => write!(text, "local {core}"),
-        Event::Store(core) => write!(text, "store {core}"),
-        Event::Offline(core) => write!(text, "offline {core}"),
-        Event::Finalise => text.push_str("finalise"),
-    }
-}
-
-// Adds a reply.
-fn push_reply(text: &mut String, reply: Reply) -> Result<(), AllocError>
-    ensures { OnOk result (string_bytes text.new ≡ string_bytes text.old ++ reply_text reply) }
-{
-    match reply {
-        Reply::Done => text.push_str("done"),
-        Reply::Skipped => text.push_str("skipped"),
-        Reply::Parked(cause) => {
-            text.push_str("parked ")?;
-            push_cause(text, cause)
-        }
-        Reply::Panicked(cause) => {
-            text.push_str("panicked ")?;
-            push_cause(text, cause)
-        }
-    }
-}
-
-// Adds the line of a step.
-fn push_step(text: &mut String, number: usize, event: Event, reply: Reply) -> Result<(), AllocError>
-    ensures { OnOk result (string_bytes text.new ≡ string_bytes text.old ++ step_line number event reply) }
-{
-    write!(text, "step {number} ")?;
-    push_event(text, event)?;
-    text.push_str(" ")?;
-    push_reply(text, reply)?;
-    text.push_str("\n")
-}
-
-// Adds a register's line where its word changes.
-fn push_change(
-    text: &mut String,
-    register: SysReg,
-    before: u64,
-    after: u64,
-) -> Result<(), AllocError>
-    ensures { OnOk result (string_bytes text.new ≡ string_bytes text.old ++ changed_line register before after) }
-{
-    if before == after {
-        Ok(())
-    } else {
-        push_register(text, register, after)
-    }
-}
-
-// Adds the lines of the registers whose words differ between two systems.
-fn push_changes(text: &mut String, before: &System, after: &System) -> Result<(), AllocError>
-    ensures { OnOk result ((overrides : FieldOverrides) (old new : List Core) → IsSystemOf overrides old before.now
-        → IsSystemOf overrides new after.now → string_bytes text.new ≡ string_bytes text.old
-        ++ changed_lines overrides old new) }
-{
-    for register in SysReg::TRACKED {
-        push_change(text, register, before.word(register), after.word(register))?;
-    }
-    Ok(())
-}
-
-// Makes the step at an index, and adds its lines where it does not stop the machine.
-#[tactic(auto, unfolding(crate::specs::Trace::step_lines))]
-fn trace_step(
-    text: &mut String,
-    boot: &mut Boot,
-    events: &[Event],
-    index: usize,
-) -> Result<Option<Halt>, AllocError>
-    requires inside { index < length events.now }
-    requires at { IsAt index events.now boot.old.board boot.old }
-    ensures after { IsAfter boot.old.board (steps_before (index + 1) events.now) boot.new }
-    ensures halt { IfOk result (λ halt. halt ≡ halt_of boot.old.board (steps_before (index + 1) events.now)) }
-    ensures lines { result ≡ Ok None → string_bytes text.new ≡ string_bytes text.old
-        ++ step_lines boot.old.board (reverse events.now) (steps_before index events.now)
-        (slice_index_or events.now index (Event.Check 0)) }
-{
-    let before = *boot.system();
-    let reply = make_step(boot, events, index);
-    if let Some(halt) = boot.halted() {
-        return Ok(Some(halt));
-    }
-    sets_are_those_of_the_steps();
-    push_step(text, index + 1, events[index], reply)?;
-    push_changes(text, &before, boot.system())?;
-    Ok(None)
-}
-
-// Makes steps in their order, up to one that stops the machine, and adds their trace.
-#[tactic(auto, unfolding(crate::specs::Trace::trace_of))]
-fn trace_steps(
-    text: &mut String,
-    boot: &mut Boot,
-    events: &[Event],
-) -> Result<Option<Halt>, AllocError>
-    requires { IsAt 0 events.now boot.old.board boot.old }
-    ensures halt { IfOk result (λ halt. halt ≡ halt_of boot.old.board (reverse events.now)) }
-    ensures machine { IsOk result → IsAfter boot.old.board (steps_made boot.old.board (reverse events.now)) boot.new }
-    ensures text { result ≡ Ok None → string_bytes text.new ≡ string_bytes text.old ++ trace_of boot.old.board
-        (reverse events.now) }
-{
-    text.push_str("armcaps trace 1\n")?;
-    for index in 0..events.len() {
-        let halt = trace_step(text, boot, events, index)?;
-        if halt.is_some() {
-            return Ok(halt);
-        }
-    }
-    text.push_str("end\n")?;
-    Ok(None)
-}
+use std::alloc::Global;
 
 /// Brings the machine up, and traces its steps.
 pub fn trace_output(
@@ -161,7 +26,7 @@ pub fn trace_output(
         return Err(Ending::Memory);
     };
     let mut text = String::new(alloc);
-    let Ok(halt) = trace_steps(&mut text, &mut boot, &events) else {
+    let Ok(halt) = trace(&mut text, &mut boot, &events) else {
         return Err(Ending::Memory);
     };
     boot.facts_hold();

@@ -1,7 +1,7 @@
 use Rattle.std.proofs.Common.{◌*◌, ℕ, ◌∙◌, arith}
 use Rattle.armcaps_image.specs.Bytes.{word_in}
 use Rattle.armcaps_top.specs.Demo.{is_changed}
-use Rattle.armcaps_top.proofs.Tallies.{at_most_one, count-more, sum-more}
+use Rattle.armcaps_report.proofs.Tallies.{at_most_one, count-more, sum-more}
 use Rattle.armcaps_top.proofs.commands.demo.compare.Goals as goal
 
 pub loop-index-preserved : goal.loop-index-preserved

@@ -4,7 +4,8 @@ use Rattle.armcaps_boot.specs.Findings.{findings_of}
 use Rattle.armcaps_patch.specs.Features.{features_of}
 use Rattle.armcaps_text.specs.Document.{reading_of}
 use Rattle.armcaps_top.specs.Answer.{of_document}
-use Rattle.armcaps_top.specs.Demo.{counts_of, demo_lines}
+use Rattle.armcaps_report.specs.Demo.{demo_lines}
+use Rattle.armcaps_top.specs.Demo.{counts_of}
 use Rattle.armcaps_top.specs.Document.{Document}
 use Rattle.armcaps_top.specs.Inside.{Comes}
 use Rattle.armcaps_top.specs.declared.commands.Command.TheVariants.{Demo}

@@ -1,10 +1,10 @@
 use Rattle.std.proofs.Common.{ℕ, List, ◌++◌, ap, ◌∙◌, codes}
 use Rattle.std.specs.Fmt.{decimal}
 use Rattle.std.specs.String.{string_bytes}
-use Rattle.armcaps_top.specs.Demo.{demo_lines, title_line, cores_line, entries_line, words_line}
-use Rattle.armcaps_top.specs.Demo.{sum_line}
-use Rattle.armcaps_top.proofs.Tallies.{one_number, two_numbers}
-use Rattle.armcaps_top.proofs.commands.demo.demo_lines.Goals as goal
+use Rattle.armcaps_report.specs.Demo.{demo_lines, title_line, cores_line, entries_line, words_line}
+use Rattle.armcaps_report.specs.Demo.{sum_line}
+use Rattle.armcaps_report.proofs.Tallies.{one_number, two_numbers}
+use Rattle.armcaps_report.proofs.demo.demo_lines.Goals as goal
 
 pub returns : goal.returns
 unfolding demo_lines

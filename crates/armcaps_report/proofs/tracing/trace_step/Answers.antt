@@ -4,12 +4,12 @@ use Rattle.armcaps_board.specs.declared.event.Event.{Event}
 use Rattle.armcaps_board.specs.declared.event.Event.TheVariants.{Check}
 use Rattle.armcaps_boot.specs.declared.reply.Reply.{Reply}
 use Rattle.armcaps_board.specs.Board.{Board}
-use Rattle.armcaps_top.specs.Bringing.{steps_before}
-use Rattle.armcaps_top.specs.Trace.{admitted_by, changed_lines, step_line, step_lines}
-use Rattle.armcaps_top.proofs.Steps.{steps_more}
-use Rattle.armcaps_top.proofs.Texts.{two_pieces}
-use Rattle.armcaps_top.proofs.Traces.{number_of_steps, system_at}
-use Rattle.armcaps_top.proofs.commands.trace.trace_step.Goals as goal
+use Rattle.armcaps_boot.specs.Bringing.{steps_before}
+use Rattle.armcaps_report.specs.Trace.{admitted_by, changed_lines, step_line, step_lines}
+use Rattle.armcaps_boot.proofs.StepByStep.{steps_more}
+use Rattle.armcaps_report.proofs.Pieces.{two_pieces}
+use Rattle.armcaps_report.proofs.Traces.{number_of_steps, system_at}
+use Rattle.armcaps_report.proofs.tracing.trace_step.Goals as goal
 
 pub returns-clause-lines : goal.returns-clause-lines
 unfolding step_lines

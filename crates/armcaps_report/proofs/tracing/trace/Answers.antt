@@ -3,13 +3,13 @@ use Rattle.std.specs.Prelude.{reverse, Ok}
 use Rattle.armcaps_board.specs.declared.event.Event.{Event}
 use Rattle.armcaps_board.specs.declared.event.Event.TheVariants.{Check}
 use Rattle.armcaps_board.specs.Board.{Board}
-use Rattle.armcaps_top.specs.Bringing.{IsAt, steps_before}
-use Rattle.armcaps_top.specs.Trace.{lines_of_steps, step_lines, trace_of}
-use Rattle.armcaps_top.proofs.Brought.{board_kept, finished, goes_on, halt_found, stopped}
-use Rattle.armcaps_top.proofs.Steps.{none_of, some_of}
-use Rattle.armcaps_top.proofs.Texts.{three_pieces}
-use Rattle.armcaps_top.proofs.Traces.{lines_more}
-use Rattle.armcaps_top.proofs.commands.trace.trace_steps.Goals as goal
+use Rattle.armcaps_boot.specs.Bringing.{IsAt, steps_before}
+use Rattle.armcaps_report.specs.Trace.{lines_of_steps, step_lines, trace_of}
+use Rattle.armcaps_boot.proofs.Brought.{board_kept, finished, goes_on, halt_found, stopped}
+use Rattle.armcaps_boot.proofs.StepByStep.{none_of, some_of}
+use Rattle.armcaps_report.proofs.Pieces.{three_pieces}
+use Rattle.armcaps_report.proofs.Traces.{lines_more}
+use Rattle.armcaps_report.proofs.tracing.trace.Goals as goal
 
 pub loop-index-init : goal.loop-index-init
 loop-index-init c = record {

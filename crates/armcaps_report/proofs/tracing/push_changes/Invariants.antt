@@ -4,8 +4,8 @@ use Rattle.armcaps_enc.specs.Registers.{tracked}
 use Rattle.armcaps_tables.specs.Core.{Core}
 use Rattle.armcaps_tables.specs.Overriding.{FieldOverrides}
 use Rattle.armcaps_sanit.specs.System.{IsSystemOf, system_word}
-use Rattle.armcaps_top.specs.Trace.{changed_line}
-use Rattle.armcaps_top.proofs.commands.trace.push_changes.Given as goal
+use Rattle.armcaps_report.specs.Trace.{changed_line}
+use Rattle.armcaps_report.proofs.tracing.push_changes.Given as goal
 
 abbrev pub invariant-loop-register : goal.invariant-loop-register
 invariant-loop-register l =

@@ -1,8 +1,8 @@
 use Rattle.std.proofs.Common.{◌≡◌, ◌++◌, codes, string_bytes}
 use Rattle.std.specs.Prelude.{reverse}
-use Rattle.armcaps_top.specs.Bringing.{IsAt, steps_before}
-use Rattle.armcaps_top.specs.Trace.{lines_of_steps}
-use Rattle.armcaps_top.proofs.commands.trace.trace_steps.Given as goal
+use Rattle.armcaps_boot.specs.Bringing.{IsAt, steps_before}
+use Rattle.armcaps_report.specs.Trace.{lines_of_steps}
+use Rattle.armcaps_report.proofs.tracing.trace.Given as goal
 
 abbrev pub invariant-loop-index : goal.invariant-loop-index
 invariant-loop-index l = record {

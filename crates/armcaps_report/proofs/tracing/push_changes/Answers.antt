@@ -1,8 +1,8 @@
 use Rattle.armcaps_enc.specs.Registers.{tracked}
 use Rattle.armcaps_sanit.specs.System.{system_word}
 use Rattle.armcaps_report.proofs.Ranges.{item_more}
-use Rattle.armcaps_top.specs.Trace.{changed_line}
-use Rattle.armcaps_top.proofs.commands.trace.push_changes.Goals as goal
+use Rattle.armcaps_report.specs.Trace.{changed_line}
+use Rattle.armcaps_report.proofs.tracing.push_changes.Goals as goal
 
 pub loop-register-preserved : goal.loop-register-preserved
 loop-register-preserved c = λ overrides old new is_old is_new.

@@ -1,8 +1,8 @@
 use Rattle.std.proofs.Common.{◌≡◌, ◌≤◌, ℕ}
 use Rattle.std.specs.List.{count_by, range_with_len}
 use Rattle.armcaps_boot.specs.World.{state_at}
-use Rattle.armcaps_top.specs.Demo.{stands_parked, stands_admitted}
-use Rattle.armcaps_top.proofs.commands.demo.count_cores.Given as goal
+use Rattle.armcaps_report.specs.Demo.{stands_parked, stands_admitted}
+use Rattle.armcaps_report.proofs.standing.count_cores.Given as goal
 
 abbrev pub invariant-loop-number : goal.invariant-loop-number
 invariant-loop-number l = record {

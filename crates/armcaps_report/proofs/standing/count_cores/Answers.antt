@@ -1,8 +1,8 @@
 use Rattle.std.proofs.Common.{ℕ, arith}
 use Rattle.armcaps_boot.specs.World.{state_at}
-use Rattle.armcaps_top.specs.Demo.{stands_parked, stands_admitted}
-use Rattle.armcaps_top.proofs.Tallies.{at_most_one, count-more}
-use Rattle.armcaps_top.proofs.commands.demo.count_cores.Goals as goal
+use Rattle.armcaps_report.specs.Demo.{stands_parked, stands_admitted}
+use Rattle.armcaps_report.proofs.Tallies.{at_most_one, count-more}
+use Rattle.armcaps_report.proofs.standing.count_cores.Goals as goal
 
 pub loop-number-preserved : goal.loop-number-preserved
 loop-number-preserved c =
