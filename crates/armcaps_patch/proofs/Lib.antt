@@ -1,4 +1,5 @@
 -- Lemmas, by subject.
+pub mod Addresses
 pub mod Keeping
 pub mod Moving
 pub mod Planned

@@ -8,7 +8,7 @@ ghost use Rattle.armcaps_patch.specs.Accepting.{IsPlaced, KeepsOrRefuses};
 ghost use Rattle.armcaps_patch.specs.Kept.{IsKept, kept_of};
 
 use crate::kept::Kept;
-use crate::words::moved;
+use crate::words::{moved, takes_addresses};
 use armcaps_alt::{CallbackKind, Entry, Names, PatchKind};
 use armcaps_image::place_within;
 use armcaps_insn::FixRefused;
@@ -110,8 +110,24 @@ fn makes_other_length(kind: CallbackKind, len: u8) -> bool
     }
 }
 
-// Why a word of a replacement can't move to the site, if there is one: the least kind.
+// Why a word of a replacement can't move to the site, if there is one: the least kind. Where no word takes an address,
+// all can.
+#[tactic(auto, using(crate::proofs::Addresses::none_refused))]
 fn refused_word(kept: &Kept, image: &[u8]) -> Option<PatchKind>
+    requires kept { IsKept (length image.now) kept.now }
+    requires replacement { kept.now.callback ≡ None }
+    requires size { length image.now ≤ 2 ^ 29 }
+    ensures { result ≡ first_kind (word_tests image.now kept.now) }
+{
+    if takes_addresses(image, kept.repl as usize, kept.len as usize / 4) {
+        refused_by_words(kept, image)
+    } else {
+        None
+    }
+}
+
+// The same, word by word.
+fn refused_by_words(kept: &Kept, image: &[u8]) -> Option<PatchKind>
     requires kept { IsKept (length image.now) kept.now }
     requires replacement { kept.now.callback ≡ None }
     requires size { length image.now ≤ 2 ^ 29 }

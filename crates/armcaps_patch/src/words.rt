@@ -1,7 +1,10 @@
 //! The words of an image, and what they become.
 
-ghost use Rattle.std.specs.Prelude.{◌≡◌, ◌*◌, ◌<◌, ◌≤◌, ◌^◌, None, length};
+ghost use Rattle.std.specs.Prelude.{◌≡◌, ◌+◌, ◌*◌, ◌<◌, ◌≤◌, ◌^◌, ℕ, None, false, length, true};
 ghost use Rattle.armcaps_alt.specs.Words.{ok_or_word};
+ghost use Rattle.armcaps_image.specs.Bytes.{word_in};
+ghost use Rattle.armcaps_insn.specs.declared.instruction_class.Class.TheVariants.{Other};
+ghost use Rattle.armcaps_insn.specs.Encodings.{class_of};
 ghost use Rattle.armcaps_patch.specs.Kept.{IsKept, kept_word, moved_word};
 
 use crate::kept::Kept;
@@ -40,6 +43,7 @@ fn replaced(kept: &Kept, index: u32, image: &[u8], orig: u32) -> u32
 }
 
 // The replacement's word at an index, moved to the site, or why it can't move.
+#[tactic(auto, using(crate::proofs::Addresses::plain_moved))]
 pub(crate) fn moved(kept: &Kept, index: u32, image: &[u8]) -> Result<u32, FixRefused>
     requires kept { IsKept (length image.now) kept.now }
     requires replacement { kept.now.callback ≡ None }
@@ -49,12 +53,39 @@ pub(crate) fn moved(kept: &Kept, index: u32, image: &[u8]) -> Result<u32, FixRef
 {
     let low = kept.repl as u64;
     let from = low + 4 * index as u64;
-    let to = kept.site as u64 + 4 * index as u64;
-    correct(
-        word(image, from as usize),
-        from,
-        to,
-        low,
-        low + kept.len as u64,
-    )
+    let word = word(image, from as usize);
+    if takes_address(word) {
+        let to = kept.site as u64 + 4 * index as u64;
+        correct(word, from, to, low, low + kept.len as u64)
+    } else {
+        Ok(word)
+    }
+}
+
+// Whether one of so many words takes an address from the place where it stands.
+pub(crate) fn takes_addresses(image: &[u8], begin: usize, words: usize) -> bool
+    requires { begin + 4 * words ≤ length image.now }
+    ensures { result ≡ false
+        → (index : ℕ) → index < words → class_of (word_in image.now (begin + 4 * index)) ≡ Other }
+{
+    let mut any = false;
+    for index in 0..words {
+        if takes_address(word(image, begin + 4 * index)) {
+            any = true;
+        }
+    }
+    any
+}
+
+// Whether a word takes an address from the place where it stands, as its highest byte tells: ADR, ADRP; B.cond, BC.cond
+// and the miscellaneous group; B, BL, CBZ, CBNZ, TBZ, TBNZ; literal loads (Arm ARM DDI 0487, "A64 instruction set
+// encoding").
+fn takes_address(word: u32) -> bool
+    ensures { result ≡ false → class_of word ≡ Other }
+{
+    let is_page = word & 0x1f00_0000 == 0x1000_0000;
+    let is_condition = word & 0xfe00_0000 == 0x5400_0000;
+    let is_branch = word & 0x5c00_0000 == 0x1400_0000;
+    let is_load = word & 0x3b00_0000 == 0x1800_0000;
+    is_page | is_condition | is_branch | is_load
 }

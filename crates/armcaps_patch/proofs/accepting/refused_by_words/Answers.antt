@@ -6,8 +6,8 @@ use Rattle.armcaps_alt.specs.Refusals.{is_literal, is_out_of_range}
 use Rattle.armcaps_patch.specs.Replaced.{moved_words}
 use Rattle.armcaps_patch.specs.Kept.{moved_word}
 use Rattle.armcaps_patch.proofs.Moving.{any_here, any_more}
-use Rattle.armcaps_patch.proofs.accepting.refused_word.Goals.{in-Ok, in-Err-Range}
-use Rattle.armcaps_patch.proofs.accepting.refused_word.Goals as goal
+use Rattle.armcaps_patch.proofs.accepting.refused_by_words.Goals.{in-Ok, in-Err-Range}
+use Rattle.armcaps_patch.proofs.accepting.refused_by_words.Goals as goal
 
 pub loop-index-preserved : goal.loop-index-preserved
 loop-index-preserved c =

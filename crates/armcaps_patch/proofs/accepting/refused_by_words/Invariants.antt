@@ -2,7 +2,7 @@ use Rattle.std.proofs.Common.{◌≡◌, false}
 use Rattle.std.specs.List.{list_any}
 use Rattle.armcaps_alt.specs.Refusals.{is_literal, is_out_of_range}
 use Rattle.armcaps_patch.specs.Replaced.{moved_words}
-use Rattle.armcaps_patch.proofs.accepting.refused_word.Given as goal
+use Rattle.armcaps_patch.proofs.accepting.refused_by_words.Given as goal
 
 -- no word so far is of the class that isn't followed, and it is known whether one is out of range
 abbrev pub invariant-loop-index : goal.invariant-loop-index
