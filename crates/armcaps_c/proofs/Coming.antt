@@ -10,7 +10,7 @@ use Rattle.armcaps_top.specs.Ending.{output_status, reason_status, status_of}
 use Rattle.armcaps_top.specs.Run.{AreSafe, Change, EndsSo, Promises, ReadFails, reads_input}
 use Rattle.armcaps_top.specs.Telling.{Tells, ending_line}
 use Rattle.armcaps_top.specs.declared.commands.Command.{Command}
-use Rattle.armcaps_top.specs.declared.commands.Command.TheVariants.{Ask, Patch, Elf, Jump, Audit, Demo}
+use Rattle.armcaps_top.specs.declared.commands.Command.TheVariants.{Ask, Patch, Elf, Jump, Pool, Audit, Demo}
 use Rattle.armcaps_top.specs.declared.ending.Ending.{Ending}
 use Rattle.armcaps_top.specs.declared.ending.Ending.TheVariants.{Done, ReadFault, WriteFault, Memory, NoOutput}
 use Rattle.armcaps_top.specs.declared.reason.Reason.{Reason}
@@ -26,6 +26,7 @@ same_answer (Some (Ask query)) bytes input same = ap (answer_for (Some (Ask quer
 same_answer (Some Patch) bytes input same = ap (answer_for (Some Patch)) (same refl)
 same_answer (Some Elf) bytes input same = ap (answer_for (Some Elf)) (same refl)
 same_answer (Some (Jump table count)) bytes input same = ap (answer_for (Some (Jump table count))) (same refl)
+same_answer (Some Pool) bytes input same = ap (answer_for (Some Pool)) (same refl)
 same_answer (Some Audit) bytes input same = ap (answer_for (Some Audit)) (same refl)
 same_answer (Some (Demo seed cores)) bytes input same = refl
 

@@ -7,7 +7,7 @@ use Rattle.armcaps_text.specs.Numbers.{number_up_to}
 use Rattle.armcaps_top.specs.Commands.{command_of, command_of_two, core_number, cores_number, demo_of, instruction_word, jump_of, mrs_of, seed_number, within}
 use Rattle.armcaps_top.specs.Inside.{AreCoresGiven}
 use Rattle.armcaps_top.specs.declared.commands.Command.{Command}
-use Rattle.armcaps_top.specs.declared.commands.Command.TheVariants.{Ask, Patch, Elf, Audit, Demo}
+use Rattle.armcaps_top.specs.declared.commands.Command.TheVariants.{Ask, Patch, Elf, Pool, Audit, Demo}
 use Rattle.armcaps_top.specs.declared.commands.Query.TheVariants.{Report, Trace}
 
 within_is : (found : Option ℕ) (least most number : ℕ) → within least most found ≡ Some number → (least ≤ number) × (number ≤ most)
@@ -33,14 +33,15 @@ of_jump (Some table) (Some count) seed cores is = cc
 of_jump None count seed cores is = cc
 of_jump (Some table) None seed cores is = cc
 
-of_one : (report patch trace elf audit : Bool) (seed cores : ℕ)
-    → cond report (Some (Ask Report)) (cond patch (Some Patch) (cond trace (Some (Ask Trace)) (cond elf (Some Elf) (cond audit (Some Audit) None)))) ≡ Some (Demo seed cores) → ⊥
-of_one true patch trace elf audit seed cores is = cc
-of_one false true trace elf audit seed cores is = cc
-of_one false false true elf audit seed cores is = cc
-of_one false false false true audit seed cores is = cc
-of_one false false false false true seed cores is = cc
-of_one false false false false false seed cores is = cc
+of_one : (report patch trace elf pool audit : Bool) (seed cores : ℕ)
+    → cond report (Some (Ask Report)) (cond patch (Some Patch) (cond trace (Some (Ask Trace)) (cond elf (Some Elf) (cond pool (Some Pool) (cond audit (Some Audit) None))))) ≡ Some (Demo seed cores) → ⊥
+of_one true patch trace elf pool audit seed cores is = cc
+of_one false true trace elf pool audit seed cores is = cc
+of_one false false true elf pool audit seed cores is = cc
+of_one false false false true pool audit seed cores is = cc
+of_one false false false false true audit seed cores is = cc
+of_one false false false false false true seed cores is = cc
+of_one false false false false false false seed cores is = cc
 
 of_two : (mrs demo jump : Bool) (core word first second table count : Option ℕ) (seed cores : ℕ)
     → cond mrs (mrs_of core word) (cond demo (demo_of first second) (cond jump (jump_of table count) None)) ≡ Some (Demo seed cores) → second ≡ Some cores
@@ -54,7 +55,7 @@ unfolding command_of command_of_two
 cores_are [] seed cores is = absurd (let no : ⊥ = cc in no)
 cores_are (name ∷ []) seed cores is =
     absurd (of_one (bytes_eq name (codes "report")) (bytes_eq name (codes "patch")) (bytes_eq name (codes "trace")) (bytes_eq name (codes "elf"))
-    (bytes_eq name (codes "audit")) seed cores is)
+    (bytes_eq name (codes "pool")) (bytes_eq name (codes "audit")) seed cores is)
 cores_are (name ∷ first ∷ []) seed cores is = absurd (let no : ⊥ = cc in no)
 cores_are (name ∷ first ∷ second ∷ []) seed cores is =
     bounded (nat_lt 2 (length second)) (digits_number 10 second) 1 64 cores

@@ -15,6 +15,8 @@ pub mod Limits
 pub mod Loaded
 pub mod Outputs
 pub mod PatchedImages
+pub mod PooledBaselines
+pub mod Pools
 pub mod Performing
 pub mod Promising
 pub mod ShortLines

@@ -8,11 +8,12 @@ use Rattle.armcaps_io.proofs.StreamLemmas.{Moves-trans}
 use Rattle.armcaps_text.specs.Formats.{format_named, format_of, format_one, format_two}
 use Rattle.armcaps_text.specs.Lines.{ended_lines, first_mebibyte, lines_of}
 use Rattle.armcaps_text.specs.declared.format.Format.{Format}
-use Rattle.armcaps_top.specs.Answer.{of_document, refused}
-use Rattle.armcaps_top.specs.Document.{document, document_pair}
+use Rattle.armcaps_top.specs.Answer.{answer_of, refused}
+use Rattle.armcaps_top.specs.Document.{document, document_pair, documents}
 use Rattle.armcaps_top.specs.Inside.{IsLonger, IsNoDocument, IsNotRead, IsUnreadPast}
-use Rattle.armcaps_top.specs.Run.{Change}
-use Rattle.armcaps_top.specs.declared.commands.Command.TheVariants.{Audit}
+use Rattle.armcaps_top.specs.Run.{Change, reads_input}
+use Rattle.armcaps_top.specs.declared.commands.Command.{Command}
+use Rattle.armcaps_top.specs.declared.commands.Command.TheVariants.{Pool, Audit}
 use Rattle.armcaps_top.specs.declared.ending.Ending.{Ending}
 use Rattle.armcaps_top.specs.declared.ending.Ending.TheVariants.{Done, ReadFault, WriteFault, Memory, NoOutput}
 use Rattle.armcaps_top.specs.declared.reason.Reason.TheVariants.{Refused}
@@ -89,25 +90,38 @@ is_longer (Some input) (Some rest) bytes limit moved long =
     let given : input ≡ bytes ++ rest = moved.given ∙ ap (λ (part : List ℕ). part ++ rest) (sym moved.grown) in
     record { bytes = input; told = refl; longer = rw given (omega (arith, length-append bytes rest)) }
 
-pair_longer : (input : List ℕ) → 269484032 < length input → document_pair input ≡ Err (TooLong 269484032)
+pair_longer : (input : List ℕ) → 269484032 < length input → answer_of Audit input ≡ refused (TooLong 269484032)
 unfolding document_pair
 pair_longer input long =
     let test : nat_lt 269484032 (length input) ≡ true = grind (arith, nat_tests) in rw test refl
 
--- an input of `audit` that was not read whole
-pub pair_not_read : (input : Change) (ending : Ending) → IsUnreadPast 269484032 input.old input.before input.now ending → IsNotRead Audit input ending
-pair_not_read input Done is = absurd is
-pair_not_read input ReadFault is = (refl, is)
-pair_not_read input WriteFault is = absurd is
-pair_not_read input Memory is = tt
-pair_not_read input (NoOutput (Refused (TooLong limit))) is = record {
-  bytes = is.1.bytes;
-  told_bytes = λ reads. is.1.told;
-  refused = ap (of_document Audit) (pair_longer is.1.bytes is.1.longer) ∙ ap (λ (most : ℕ). refused (TooLong most)) (sym is.0);
-}
-pair_not_read input (NoOutput (Refused _)) is = absurd is
-pair_not_read input (NoOutput _) is = absurd is
+texts_longer : (input : List ℕ) → 67108864 < length input → answer_of Pool input ≡ refused (TooLong 67108864)
+unfolding documents
+texts_longer input long =
+    let test : nat_lt 67108864 (length input) ≡ true = grind (arith, nat_tests) in rw test refl
+
+-- an input that was not read whole, of a command that refuses one longer than a limit
+module _ (command : Command) (limit : ℕ) (reads : reads_input (Some command) ≡ true)
+    (longer : (input : List ℕ) → limit < length input → answer_of command input ≡ refused (TooLong limit)) where
+  not_read : (input : Change) (ending : Ending) → IsUnreadPast limit input.old input.before input.now ending → IsNotRead command input ending
+  not_read input Done is = absurd is
+  not_read input ReadFault is = (reads, is)
+  not_read input WriteFault is = absurd is
+  not_read input Memory is = tt
+  not_read input (NoOutput (Refused (TooLong most))) is = record {
+    bytes = is.1.bytes;
+    told_bytes = λ reads. is.1.told;
+    refused = longer is.1.bytes is.1.longer ∙ ap (λ (n : ℕ). refused (TooLong n)) (sym is.0);
+  }
+  not_read input (NoOutput (Refused _)) is = absurd is
+  not_read input (NoOutput _) is = absurd is
+
+  unread : {A : Type 0} (made : Result A Ending) (input : Change) → IfErr made (IsUnreadPast limit input.old input.before input.now) → IfErr made (IsNotRead command input)
+  unread (Ok bytes) input is = tt
+  unread (Err ending) input is = not_read input ending is
 
 pub pair_unread : {A : Type 0} (made : Result A Ending) (input : Change) → IfErr made (IsUnreadPast 269484032 input.old input.before input.now) → IfErr made (IsNotRead Audit input)
-pair_unread (Ok bytes) input is = tt
-pair_unread (Err ending) input is = pair_not_read input ending is
+pair_unread made input is = unread Audit 269484032 refl pair_longer made input is
+
+pub texts_unread : {A : Type 0} (made : Result A Ending) (input : Change) → IfErr made (IsUnreadPast 67108864 input.old input.before input.now) → IfErr made (IsNotRead Pool input)
+texts_unread made input is = unread Pool 67108864 refl texts_longer made input is

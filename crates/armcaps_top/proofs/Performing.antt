@@ -7,21 +7,23 @@ use Rattle.armcaps_io.specs.Causes.{Rose}
 use Rattle.armcaps_io.specs.Streams.{Appends, AppendsPrefix, GivesAtMost, GivesCount, Keeps}
 use Rattle.armcaps_text.specs.Document.{Outcome, Reads, Refuses, Reading, outcome}
 use Rattle.armcaps_text.specs.Formats.{format_of}
-use Rattle.armcaps_top.specs.Answer.{Answer, answer_of, of_document, output_in, refused, unless_stopped}
+use Rattle.armcaps_text.specs.Texts.{texts_of}
+use Rattle.armcaps_text.specs.declared.texts.TextsRefused.{TextsRefused}
+use Rattle.armcaps_top.specs.Answer.{Answer, answer_of, of_document, of_documents, output_in, refused, unless_stopped}
 use Rattle.armcaps_top.specs.Demo.{generated_document}
-use Rattle.armcaps_top.specs.Document.{Document, document, document_after, document_pair, pair_after, unless_refused}
+use Rattle.armcaps_top.specs.Document.{Document, document, document_after, document_pair, documents, documents_after, pair_after, unless_refused}
 use Rattle.armcaps_top.specs.Inside.{AreCoresGiven, Comes, Ends, IsNotRead, IsNotUp, IsRead, IsRefusedSo, IsThrough, IsUp, IsWhy, Performs, limit_of}
 use Rattle.armcaps_top.specs.Patch.{unless}
 use Rattle.armcaps_top.specs.Run.{Change, EndsSo, most_read, reads_input}
 use Rattle.armcaps_top.specs.declared.commands.Command.{Command}
-use Rattle.armcaps_top.specs.declared.commands.Command.TheVariants.{Ask, Patch, Elf, Jump, Audit, Demo}
+use Rattle.armcaps_top.specs.declared.commands.Command.TheVariants.{Ask, Patch, Elf, Jump, Pool, Audit, Demo}
 use Rattle.armcaps_top.specs.declared.ending.Ending.{Ending}
 use Rattle.armcaps_top.specs.declared.ending.Ending.TheVariants.{Done, ReadFault, WriteFault, Memory, NoOutput}
 use Rattle.armcaps_top.specs.declared.reason.Reason.{Reason}
 use Rattle.armcaps_top.specs.declared.reason.Reason.TheVariants.{Refused}
 use Rattle.armcaps_top.specs.declared.refusal.Refusal.{Refusal}
 use Rattle.armcaps_top.specs.declared.refusal.Refusal.TheVariants.{TooLong, ImageShort, Trailing}
-use Rattle.armcaps_top.proofs.Fitting.{fits}
+use Rattle.armcaps_top.proofs.Fitting.{fits, never_refused}
 
 -- nothing comes of an answer for want of memory
 pub no_memory : (answer : Answer) (machines : List World) → Comes answer machines (Err Memory)
@@ -46,6 +48,21 @@ not_taken command answer read machines (NoOutput (Refused refusal)) of none is =
   safe = tt;
 })
 not_taken command answer read machines (NoOutput _) of none is = absurd is
+
+-- documents that are refused
+pub none_taken : (read : Result (List Document) Refusal) (machines : List World) (ending : Ending) → machines ≡ [] → IsRefusedSo read ending
+    → Comes (of_documents read) machines (Err ending)
+none_taken read machines Done none is = absurd is
+none_taken read machines ReadFault none is = absurd is
+none_taken read machines WriteFault none is = absurd is
+none_taken read machines Memory none is = no_memory (of_documents read) machines
+none_taken read machines (NoOutput (Refused refusal)) none is = rw (is, none) (record {
+  output = tt;
+  instead = refl;
+  machines_are = λ had. tt;
+  safe = tt;
+})
+none_taken read machines (NoOutput _) none is = absurd is
 
 -- what a document is, its image apart
 pub document_is : (reading : Reading) (image bytes : List ℕ) (place : ℕ) → document bytes ≡ Ok (record { reading = reading; image = drop place bytes })
@@ -199,6 +216,24 @@ pair_short input limit within is =
     let test : nat_lt 269484032 (length input) ≡ false = grind (arith, nat_tests) in
     pair_after_short (outcome input) input limit (rw test at is)
 
+-- texts are refused for no length
+texts_short : (texts : Result (List Reading) TextsRefused) (limit : ℕ) → documents_after texts ≡ Err (TooLong limit) → ⊥
+texts_short (Ok readings) limit is = cc
+texts_short (Err refused) limit is = cc
+
+documents_short : (input : List ℕ) (limit : ℕ) → length input ≤ 67108864 → documents input ≡ Err (TooLong limit) → ⊥
+unfolding documents
+documents_short input limit within is =
+    let test : nat_lt 67108864 (length input) ≡ false = grind (arith, nat_tests) in
+    texts_short (texts_of input) limit (rw test at is)
+
+-- an answer of documents that is refused is one of documents that are
+all_refused : (read : Result (List Document) Refusal) (refusal : Refusal) → of_documents read ≡ refused refusal → read ≡ Err refusal
+all_refused (Err other) refusal is =
+    let same : Err (Refused other) ≡ Err (Refused refusal) = ap (λ (answer : Answer). answer.output) is in
+    let one : other ≡ refusal = cc in ap Err one
+all_refused (Ok all) refusal is = absurd (never_refused all refusal (ap (λ (answer : Answer). answer.output) is))
+
 of_refused : (command : Command) (read : Result Document Refusal) (refusal : Refusal) → of_document command read ≡ refused refusal → read ≡ Err refusal
 of_refused command (Ok found) refusal is = absurd (let none : found ∷ [] ≡ [] = ap (λ (answer : Answer). answer.machines) is in let no : ⊥ = cc in no)
 of_refused command (Err other) refusal is =
@@ -210,6 +245,7 @@ answer_short (Ask query) bytes limit within is = document_short bytes limit with
 answer_short Patch bytes limit within is = document_short bytes limit within (of_refused Patch (document bytes) (TooLong limit) is)
 answer_short (Jump table count) bytes limit within is = document_short bytes limit within (of_refused (Jump table count) (document bytes) (TooLong limit) is)
 answer_short Elf bytes limit within is = document_short bytes limit within (of_refused Elf (document bytes) (TooLong limit) is)
+answer_short Pool bytes limit within is = documents_short bytes limit within (all_refused (documents bytes) (TooLong limit) is)
 answer_short Audit bytes limit within is = pair_short bytes limit within (of_refused Audit (document_pair bytes) (TooLong limit) is)
 answer_short (Demo seed cores) bytes limit within is =
     let no = of_refused (Demo seed cores) (Ok (generated_document seed cores)) (TooLong limit) is in absurd (let never : ⊥ = cc in never)

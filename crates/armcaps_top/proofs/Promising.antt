@@ -2,7 +2,6 @@
 use Rattle.std.proofs.Common.{◌≡◌, ◌≢◌, ◌⊎◌, inl, inr, ℕ, ◌≤◌, ◌||◌, Bool, true, false, List, [], ◌∷◌, Option, Some, None, refl, sym, ap, subst, ◌∙◌, arith}
 use Rattle.std.specs.Prelude.{◌==◌, Result, Ok, Err}
 use Rattle.std.specs.Result.{IsOkAnd}
-use Rattle.armcaps_boot.specs.declared.halt.Halt.{Halt}
 use Rattle.armcaps_boot.specs.World.{World}
 use Rattle.armcaps_io.specs.Causes.{Rose}
 use Rattle.armcaps_io.specs.Streams.{Appends, GivesAtMost, Keeps}
@@ -15,7 +14,7 @@ use Rattle.armcaps_top.specs.declared.commands.Command.{Command}
 use Rattle.armcaps_top.specs.declared.ending.Ending.{Ending}
 use Rattle.armcaps_top.specs.declared.ending.Ending.TheVariants.{Done, ReadFault, WriteFault, Memory, NoOutput}
 use Rattle.armcaps_top.specs.declared.reason.Reason.{Reason}
-use Rattle.armcaps_top.specs.declared.reason.Reason.TheVariants.{Usage, Refused, Panicked, NotPatched, NotRead, NotElf, NotLoaded, NotJumped, Differs}
+use Rattle.armcaps_top.specs.declared.reason.Reason.TheVariants.{Usage, Refused, Panicked, MachinePanicked, NotPatched, NotRead, NotElf, NotLoaded, NotJumped, Differs}
 use Rattle.armcaps_top.specs.declared.refusal.Refusal.{Refusal}
 use Rattle.armcaps_top.proofs.Fitting.{Fits, fits, read_ends, stream_ends}
 use Rattle.armcaps_top.proofs.Performing.{keeps}
@@ -57,10 +56,15 @@ refused_of (NoOutput (Refused refusal)) is = (refusal, refl)
 refused_of (NoOutput _) is = absurd (omega (arith, is))
 refused_of _ is = absurd (omega (arith, is))
 
-panicked_of : (ending : Ending) → status_of ending ≡ 7 → (halt : Halt) × (ending ≡ NoOutput (Panicked halt))
-panicked_of (NoOutput (Panicked halt)) is = (halt, refl)
-panicked_of (NoOutput _) is = absurd (omega (arith, is))
-panicked_of _ is = absurd (omega (arith, is))
+-- why a step stopped a machine
+record IsStopOf (ending : Ending) : Type 0 where
+  reason : Reason
+  seven : reason_status reason ≡ 7
+  ending_is : ending ≡ NoOutput reason
+
+stop_of : (ending : Ending) → status_of ending ≡ 7 → IsStopOf ending
+stop_of (NoOutput reason) is = record { reason = reason; seven = is; ending_is = refl }
+stop_of _ is = absurd (omega (arith, is))
 
 -- the status of what is written
 written : (output : Result (List ℕ) Reason) (P : List ℕ → Type 0) → IsOkAnd output P → 0 ≡ output_status output
@@ -102,6 +106,7 @@ no_machine command answer input out machines (NoOutput Usage) so fit left none u
 no_machine command answer input out machines (NoOutput (Refused refusal)) so fit left none usage low high =
     none_left machines (rw (fit.refused refusal so) at (left (λ e. let no : ⊥ = cc in no) (λ e. let no : ⊥ = cc in no)))
 no_machine command answer input out machines (NoOutput (Panicked halt)) so fit left none usage low high = absurd (omega (arith, high))
+no_machine command answer input out machines (NoOutput (MachinePanicked machine halt)) so fit left none usage low high = absurd (omega (arith, high))
 no_machine command answer input out machines (NoOutput (NotPatched entry kind)) so fit left none usage low high = absurd (omega (arith, high))
 no_machine command answer input out machines (NoOutput (NotRead refused)) so fit left none usage low high = absurd (omega (arith, high))
 no_machine command answer input out machines (NoOutput (NotJumped refused)) so fit left none usage low high = absurd (omega (arith, high))
@@ -142,7 +147,7 @@ promised command input out err machines ending given does told =
       too_long = does.too_long;
       read_fault = λ four. at ReadFault (read_fault_of ending four);
       write_fault = λ five. at WriteFault (write_fault_of ending five);
-      stopped = λ seven. let one = panicked_of ending seven in fit.stopped one.0 (at (NoOutput (Panicked one.0)) one.1);
+      stopped = λ seven. let one = stop_of ending seven in fit.stopped one.reason one.seven (at (NoOutput one.reason) one.ending_is);
       silent = λ zero five. does.silent (λ same. zero (ap status_of same)) (λ same. five (ap status_of same));
       unread = does.unread;
       read_at_most = does.read_at_most;

@@ -16,6 +16,9 @@ use Rattle.armcaps_hwcap.specs.Hwcaps.{hwcap_name}
 use Rattle.armcaps_hwcap.specs.Rows.{hwcap_rows}
 use Rattle.armcaps_report.specs.Texts.{cause_text}
 use Rattle.armcaps_text.specs.Refusal.{kind_word, refusal_text}
+use Rattle.armcaps_text.specs.Texts.{texts_refusal_text}
+use Rattle.armcaps_text.specs.declared.texts.TextsRefused.{TextsRefused}
+use Rattle.armcaps_text.specs.declared.texts.TextsRefused.TheVariants as texts_refused
 use Rattle.armcaps_text.specs.declared.kind.TextKind.{TextKind}
 use Rattle.armcaps_text.specs.declared.kind.TextKind.TheVariants.{Header, Unfinished, TextTooLong, UnknownLine, Order, Tokens, Number, Name, Twice, CoreNumber, TooMany, BootStep, Turn, Finalise, Incomplete, CmdlineTooLong, TableOutside}
 use Rattle.armcaps_top.specs.Document.{refused_text}
@@ -32,7 +35,7 @@ use Rattle.armcaps_report.specs.declared.user_reads.ReadRefused.TheVariants.{Not
 use Rattle.armcaps_top.specs.declared.ending.Ending.{Ending}
 use Rattle.armcaps_top.specs.declared.ending.Ending.TheVariants.{Done, ReadFault, WriteFault, Memory, NoOutput}
 use Rattle.armcaps_top.specs.declared.reason.Reason.{Reason}
-use Rattle.armcaps_top.specs.declared.reason.Reason.TheVariants.{Usage, Refused, Panicked, NotRead, NotPatched, NotElf, NotLoaded, NotJumped, Differs}
+use Rattle.armcaps_top.specs.declared.reason.Reason.TheVariants.{Usage, Refused, Panicked, MachinePanicked, NotRead, NotPatched, NotElf, NotLoaded, NotJumped, Differs}
 use Rattle.armcaps_top.specs.declared.refusal.Refusal.{Refusal}
 use Rattle.armcaps_top.specs.declared.refusal.Refusal.TheVariants as refusal
 
@@ -139,12 +142,19 @@ cause_short (Cap number) = grind (arith, length-append, decimal_short, capabilit
 cause_short (Hwcap index) = grind (arith, length-append, hwcap_name_short)
 cause_short (Vector bits) = grind (arith, length-append, decimal_short)
 
-refused_short : (why : Refusal) → length (refused_text why) ≤ 200
+texts_refused_short : (why : TextsRefused) → length (texts_refusal_text why) ≤ 240
+unfolding texts_refusal_text refusal_text
+texts_refused_short (texts_refused.Line number line kind) = grind (arith, length-append, decimal_short, kind_word_short)
+texts_refused_short (texts_refused.Image number) = grind (arith, length-append, decimal_short)
+texts_refused_short texts_refused.TooMany = lit≤ tt
+
+refused_short : (why : Refusal) → length (refused_text why) ≤ 240
 unfolding refused_text refusal_text
 refused_short (refusal.Line line kind) = grind (arith, length-append, decimal_short, kind_word_short)
 refused_short (refusal.TooLong limit) = grind (arith, length-append, decimal_short)
 refused_short (refusal.ImageShort got of) = grind (arith, length-append, decimal_short)
 refused_short (refusal.Trailing extra) = grind (arith, length-append, decimal_short)
+refused_short (refusal.Texts why) = texts_refused_short why
 
 read_refused_short : (why : ReadRefused) → length (read_refused_text why) ≤ 100
 unfolding read_refused_text eight_digits
@@ -156,11 +166,12 @@ unfolding labels_refused_text
 labels_refused_short labels_refused.TableOutside = lit≤ tt
 labels_refused_short (labels_refused.Entry entry kind) = grind (arith, length-append, decimal_short, label_kind_short)
 
-reason_short : (reason : Reason) → length (reason_text reason) ≤ 240
+reason_short : (reason : Reason) → length (reason_text reason) ≤ 300
 unfolding reason_text halt_text entry_text elf_entry_text elf_kind_text
 reason_short Usage = lit≤ tt
 reason_short (Refused why) = grind (arith, refused_short)
 reason_short (Panicked halt) = grind (arith, length-append, decimal_short, cause_short)
+reason_short (MachinePanicked machine halt) = grind (arith, length-append, decimal_short, cause_short)
 reason_short (NotPatched entry kind) = grind (arith, length-append, decimal_short, patch_kind_short)
 reason_short (NotRead why) = grind (arith, length-append, read_refused_short)
 reason_short (NotElf kind) = grind (arith, length-append, decimal_short, elf_word_short)
@@ -168,7 +179,7 @@ reason_short (NotLoaded entry kind) = grind (arith, length-append, decimal_short
 reason_short (NotJumped why) = grind (arith, length-append, labels_refused_short)
 reason_short (Differs place) = grind (arith, length-append, decimal_short)
 
-ending_short : (ending : Ending) → length (ending_text ending) ≤ 240
+ending_short : (ending : Ending) → length (ending_text ending) ≤ 300
 unfolding ending_text
 ending_short Done = lit≤ tt
 ending_short ReadFault = lit≤ tt
@@ -177,5 +188,5 @@ ending_short Memory = lit≤ tt
 ending_short (NoOutput reason) = reason_short reason
 
 -- no line is longer than the buffer
-pub ending_line_short : (ending : Ending) → length (ending_line ending) ≤ 256
+pub ending_line_short : (ending : Ending) → length (ending_line ending) ≤ 320
 ending_line_short ending = grind (arith, length-append, ending_short)

@@ -1,29 +1,31 @@
 -- What a command makes of its input: the machines that it brings up, and what it writes or why it writes nothing.
-use Rattle.std.specs.Prelude.{ℕ, List, [], ◌∷◌, Option, Some, None, Result, Ok, Err}
+use Rattle.std.specs.Prelude.{ℕ, ◌+◌, if◌then◌else◌, List, [], ◌∷◌, map, Option, Some, None, is_some, Result, Ok, Err}
+use Rattle.std.specs.Option.{option_map, option_or}
 use Rattle.armcaps_tables.specs.Core.{Core}
 use Rattle.armcaps_board.specs.declared.event.Event.{Event}
 use Rattle.armcaps_board.specs.Board.{Board}
 use Rattle.armcaps_board.specs.Steps.{history}
 use Rattle.armcaps_boot.specs.Admission.{admitted_cores_after, halt_of}
-use Rattle.armcaps_boot.specs.Findings.{findings_after}
+use Rattle.armcaps_boot.specs.Findings.{Findings, findings_after}
 use Rattle.armcaps_boot.specs.declared.halt.Halt.{Halt}
 use Rattle.armcaps_mrs.specs.Reading.{user_read}
 use Rattle.armcaps_report.specs.Report.{report_of}
 use Rattle.armcaps_top.specs.Audit.{audit_output}
 use Rattle.armcaps_top.specs.Demo.{demo_output, generated_document}
-use Rattle.armcaps_top.specs.Document.{Document, document, document_pair}
+use Rattle.armcaps_top.specs.Document.{Document, document, document_pair, documents}
 use Rattle.armcaps_top.specs.Jump.{jump_output}
 use Rattle.armcaps_top.specs.Elf.{elf_output}
 use Rattle.armcaps_top.specs.Mrs.{read_output}
-use Rattle.armcaps_top.specs.Patch.{patch_output}
+use Rattle.armcaps_top.specs.Patch.{patch_output, unless}
+use Rattle.armcaps_top.specs.Pool.{pool_output}
 use Rattle.armcaps_report.specs.Trace.{trace_of}
 use Rattle.armcaps_top.specs.declared.commands.Command.{Command}
-use Rattle.armcaps_top.specs.declared.commands.Command.TheVariants.{Ask, Patch, Elf, Jump, Audit, Demo}
+use Rattle.armcaps_top.specs.declared.commands.Command.TheVariants.{Ask, Patch, Elf, Jump, Pool, Audit, Demo}
 use Rattle.armcaps_top.specs.declared.commands.Query.{Query}
 use Rattle.armcaps_top.specs.declared.commands.Query.TheVariants.{Report, Mrs, Trace}
 use Rattle.armcaps_report.specs.declared.user_reads.ReadRefused.{ReadRefused}
 use Rattle.armcaps_top.specs.declared.reason.Reason.{Reason}
-use Rattle.armcaps_top.specs.declared.reason.Reason.TheVariants.{Usage, Refused, Panicked, NotRead}
+use Rattle.armcaps_top.specs.declared.reason.Reason.TheVariants.{Usage, Refused, Panicked, MachinePanicked, NotRead}
 use Rattle.armcaps_top.specs.declared.refusal.Refusal.{Refusal}
 
 -- the steps of a document, the newest first
@@ -57,6 +59,7 @@ output_in Patch found = patch_output found.reading.board (steps_of found) found.
 output_in (Jump table count) found =
     jump_output table count found.reading.board (steps_of found) found.reading found.image
 output_in Elf found = elf_output found.reading.board (steps_of found) found.reading found.image
+output_in Pool found = Ok (pool_output (findings_after found.reading.board (steps_of found) ∷ []))
 output_in Audit found = audit_output found.reading.board (steps_of found) found.reading found.image
 output_in (Demo seed cores) found =
     Ok (demo_output seed cores found.reading.board (steps_of found) found.reading found.image)
@@ -82,12 +85,37 @@ of_document command (Ok found) =
     record { machines = found ∷ []; output = unless_stopped (halt_in found) (output_in command found) }
 of_document command (Err refusal) = refused refusal
 
+-- the documents in their order, up to the first whose machine a step stops
+abbrev pub up_to_stop : List Document → List Document
+up_to_stop [] = []
+up_to_stop (found ∷ more) = found ∷ (if is_some (halt_in found) then [] else up_to_stop more)
+
+-- the first of some documents whose machine a step stops, by its number, and what stops it; the documents are counted
+-- from this number on
+abbrev pub first_stop : ℕ → List Document → Option Reason
+first_stop number [] = None
+first_stop number (found ∷ more) =
+    option_or (option_map (MachinePanicked number) (halt_in found)) (first_stop (number + 1) more)
+
+-- what there is to tell of the machine of a document whose steps are all made
+abbrev pub findings_in : Document → Findings
+findings_in found = findings_after found.reading.board (steps_of found)
+
+-- what `pool` makes of documents, which are counted from 0, or of an input that is none
+abbrev pub of_documents : Result (List Document) Refusal → Answer
+of_documents (Ok all) = record {
+  machines = up_to_stop all;
+  output = unless (first_stop 0 all) (pool_output (map findings_in all));
+}
+of_documents (Err refusal) = refused refusal
+
 -- what a command makes of the bytes of its input; `demo` has a document of its own, which is made from its words
 abbrev pub answer_of : Command → List ℕ → Answer
 answer_of (Ask query) input = of_document (Ask query) (document input)
 answer_of Patch input = of_document Patch (document input)
 answer_of (Jump table count) input = of_document (Jump table count) (document input)
 answer_of Elf input = of_document Elf (document input)
+answer_of Pool input = of_documents (documents input)
 answer_of Audit input = of_document Audit (document_pair input)
 answer_of (Demo seed cores) input = of_document (Demo seed cores) (Ok (generated_document seed cores))
 

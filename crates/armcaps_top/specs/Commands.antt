@@ -5,7 +5,7 @@ use Rattle.std.specs.Str.{bytes_eq}
 use Rattle.armcaps_lex.specs.Digits.{digits_number}
 use Rattle.armcaps_text.specs.Numbers.{number_up_to}
 use Rattle.armcaps_top.specs.declared.commands.Command.{Command}
-use Rattle.armcaps_top.specs.declared.commands.Command.TheVariants.{Ask, Patch, Elf, Jump, Audit, Demo}
+use Rattle.armcaps_top.specs.declared.commands.Command.TheVariants.{Ask, Patch, Elf, Jump, Pool, Audit, Demo}
 use Rattle.armcaps_top.specs.declared.commands.Query.TheVariants.{Report, Mrs, Trace}
 
 -- the number of a core: 1 to 9 decimal digits
@@ -61,6 +61,7 @@ command_named name =
     else if bytes_eq name (codes "patch") then Some Patch
     else if bytes_eq name (codes "trace") then Some (Ask Trace)
     else if bytes_eq name (codes "elf") then Some Elf
+    else if bytes_eq name (codes "pool") then Some Pool
     else if bytes_eq name (codes "audit") then Some Audit else None
 
 -- the command of a name and two arguments
@@ -72,7 +73,7 @@ command_of_two name first second =
     else None
 
 -- the command that words are a form of: `report`, `patch`, `mrs CORE WORD`, `demo SEED CORES`, `trace`, `elf`,
--- `jump OFFSET COUNT` or `audit`
+-- `jump OFFSET COUNT`, `pool` or `audit`
 unfoldable pub command_of : List (List ℕ) → Option Command
 command_of [] = None
 command_of (name ∷ []) = command_named name

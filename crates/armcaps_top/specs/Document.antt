@@ -1,12 +1,14 @@
 -- Which inputs are documents, and why another is none. The formats, limits and texts are this project's own.
-use Rattle.std.specs.Prelude.{ℕ, ◌-◌, ◌*◌, ◌++◌, nat_lt, if◌then◌else◌, List, length, drop, codes, Option, Some, None, Result, Ok, Err}
+use Rattle.std.specs.Prelude.{ℕ, ◌-◌, ◌*◌, ◌++◌, nat_lt, if◌then◌else◌, List, [], length, drop, map, codes, Option, Some, None, Result, Ok, Err}
 use Rattle.std.specs.Fmt.{decimal}
 use Rattle.armcaps_text.specs.Document.{Reading, Outcome, Reads, Refuses, outcome}
 use Rattle.armcaps_text.specs.Formats.{format_of}
 use Rattle.armcaps_text.specs.Refusal.{refusal_text}
+use Rattle.armcaps_text.specs.Texts.{texts_of, texts_refusal_text}
 use Rattle.armcaps_text.specs.declared.kind.TextRefused.TheVariants as refused
+use Rattle.armcaps_text.specs.declared.texts.TextsRefused.{TextsRefused}
 use Rattle.armcaps_top.specs.declared.refusal.Refusal.{Refusal}
-use Rattle.armcaps_top.specs.declared.refusal.Refusal.TheVariants.{Line, TooLong, ImageShort, Trailing}
+use Rattle.armcaps_top.specs.declared.refusal.Refusal.TheVariants.{Line, TooLong, ImageShort, Trailing, Texts}
 
 -- what a document says: what its text reads as, and the bytes after the text: its image, and where the input is a
 -- document and another image, that one behind it
@@ -61,9 +63,25 @@ unfoldable pub document_pair : List ℕ → Result Document Refusal
 document_pair input =
     if nat_lt 269484032 (length input) then Err (TooLong 269484032) else pair_after (outcome input) input
 
+-- the document of a text whose image has no byte
+abbrev pub without_image : Reading → Document
+without_image reading = record { reading = reading; image = [] }
+
+-- the documents of texts that read so, or why there are none
+abbrev pub documents_after : Result (List Reading) TextsRefused → Result (List Document) Refusal
+documents_after (Ok readings) = Ok (map without_image readings)
+documents_after (Err refused) = Err (Texts refused)
+
+-- the documents that an input is whose texts stand one after the other and have no image, or why it is none: more bytes
+-- than the limit, which is one for both formats, or texts that are refused
+unfoldable pub documents : List ℕ → Result (List Document) Refusal
+documents input =
+    if nat_lt 67108864 (length input) then Err (TooLong 67108864) else documents_after (texts_of input)
+
 -- the text of a refusal, as `line 7: kind 13 turn`
 unfoldable pub refused_text : Refusal → List ℕ
 refused_text (Line line kind) = refusal_text (refused.Line line kind)
 refused_text (TooLong limit) = codes "input longer than " ++ decimal limit ++ codes " bytes"
 refused_text (ImageShort got of) = codes "image short: " ++ decimal got ++ codes " of " ++ decimal of ++ codes " bytes"
 refused_text (Trailing extra) = codes "trailing bytes: " ++ decimal extra
+refused_text (Texts refused) = texts_refusal_text refused

@@ -11,13 +11,14 @@ use Rattle.armcaps_top.specs.Patch.{entry_text}
 use Rattle.armcaps_top.specs.declared.ending.Ending.{Ending}
 use Rattle.armcaps_top.specs.declared.ending.Ending.TheVariants.{Done, ReadFault, WriteFault, Memory, NoOutput}
 use Rattle.armcaps_top.specs.declared.reason.Reason.{Reason}
-use Rattle.armcaps_top.specs.declared.reason.Reason.TheVariants.{Usage, Refused, Panicked, NotRead, NotPatched, NotElf, NotLoaded, NotJumped, Differs}
+use Rattle.armcaps_top.specs.declared.reason.Reason.TheVariants.{Usage, Refused, Panicked, MachinePanicked, NotRead, NotPatched, NotElf, NotLoaded, NotJumped, Differs}
 
 -- the status of a reason why nothing is written
 abbrev pub reason_status : Reason → ℕ
 reason_status Usage = 2
 reason_status (Refused refusal) = 3
 reason_status (Panicked halt) = 7
+reason_status (MachinePanicked machine halt) = 7
 reason_status (NotPatched entry kind) = 8
 reason_status (NotRead refused) = 9
 reason_status (NotJumped refused) = 11
@@ -44,10 +45,12 @@ halt_text halt = codes "core " ++ decimal halt.core ++ codes ": " ++ cause_text 
 
 -- the text of a reason
 unfoldable pub reason_text : Reason → List ℕ
-reason_text Usage =
-    codes "usage: armcaps report | patch | mrs CORE WORD | demo SEED CORES | trace | elf | jump OFFSET COUNT | audit"
+reason_text Usage = codes
+    "usage: armcaps report | patch | mrs CORE WORD | demo SEED CORES | trace | elf | jump OFFSET COUNT | pool | audit"
 reason_text (Refused refusal) = refused_text refusal
 reason_text (Panicked halt) = codes "panic: " ++ halt_text halt
+reason_text (MachinePanicked machine halt) =
+    codes "machine " ++ decimal machine ++ codes ": panic: " ++ halt_text halt
 reason_text (NotPatched entry kind) = codes "patch: " ++ entry_text entry kind
 reason_text (NotRead refused) = codes "mrs: " ++ read_refused_text refused
 reason_text (NotJumped refused) = codes "jump: " ++ labels_refused_text refused

@@ -1,5 +1,6 @@
 -- What the parts of a run promise each other.
 use Rattle.std.specs.Prelude.{◌≡◌, ◌≢◌, ◌+◌, ◌*◌, ◌^◌, ℕ, ◌<◌, ◌≤◌, true, false, List, [], length, ◌∷◌, ◌++◌, Option, Some, None, Result, Ok, Err, IfSome, IfOk, IfErr}
+use Rattle.std.specs.List.{AllZip}
 use Rattle.armcaps_alt.specs.Entries.{Features, selected_of}
 use Rattle.armcaps_alt.specs.Refusals.{first_refusal}
 use Rattle.armcaps_alt.specs.declared.table_place.Layout.{Layout}
@@ -19,14 +20,14 @@ use Rattle.armcaps_text.specs.Formats.{format_of}
 use Rattle.armcaps_text.specs.Sound.{IsSound}
 use Rattle.armcaps_top.specs.Answer.{Answer, answer_of, of_document, unless_stopped}
 use Rattle.armcaps_top.specs.Demo.{words_covered}
-use Rattle.armcaps_top.specs.Document.{Document, document}
+use Rattle.armcaps_top.specs.Document.{document}
 use Rattle.armcaps_top.specs.Run.{AreBytesOf, AreMachinesOf, AreSafe, Change, EndsSo, IsReadWhole, ReadFails, most_read, reads_input}
 use Rattle.armcaps_top.specs.declared.commands.Command.{Command}
-use Rattle.armcaps_top.specs.declared.commands.Command.TheVariants.{Audit, Demo}
+use Rattle.armcaps_top.specs.declared.commands.Command.TheVariants.{Pool, Audit, Demo}
 use Rattle.armcaps_top.specs.declared.ending.Ending.{Ending}
 use Rattle.armcaps_top.specs.declared.ending.Ending.TheVariants.{Done, ReadFault, WriteFault, Memory, NoOutput}
 use Rattle.armcaps_top.specs.declared.reason.Reason.{Reason}
-use Rattle.armcaps_top.specs.declared.reason.Reason.TheVariants.{Refused, Panicked}
+use Rattle.armcaps_top.specs.declared.reason.Reason.TheVariants.{Refused, Panicked, MachinePanicked}
 use Rattle.armcaps_top.specs.declared.refusal.Refusal.{Refusal}
 use Rattle.armcaps_top.specs.declared.refusal.Refusal.TheVariants.{TooLong}
 
@@ -42,7 +43,7 @@ IsFailure before now Memory = Unit {0}
 IsFailure before now _ = ⊥
 
 -- what an input is read as refuses it so
-abbrev pub IsRefusedSo : Result Document Refusal → Ending → Type 0
+abbrev pub IsRefusedSo : {A : Type 0} → Result A Refusal → Ending → Type 0
 IsRefusedSo read (NoOutput (Refused refusal)) = read ≡ Err refusal
 IsRefusedSo read Memory = Unit {0}
 IsRefusedSo read _ = ⊥
@@ -66,8 +67,10 @@ IsUnreadPast limit input before now ReadFault = Rose before now
 IsUnreadPast limit input before now Memory = Unit {0}
 IsUnreadPast limit input before now _ = ⊥
 
--- the most bytes of an input that a command works on, by the input's format, or under `audit` in both formats
+-- the most bytes of an input that a command works on, by the input's format, or under `pool` and `audit` in both
+-- formats
 abbrev pub limit_of : Command → List ℕ → ℕ
+limit_of Pool input = 67108864
 limit_of Audit input = 269484032
 limit_of _ input = (format_of input).input
 
@@ -90,6 +93,11 @@ IsWhy why Memory = Unit {0}
 IsWhy why (NoOutput reason) = why ≡ Some reason
 IsWhy why _ = ⊥
 
+-- how a run ends that brings up several machines, where the one of this number would end it so alone
+abbrev pub ending_of_machine : ℕ → Ending → Ending
+ending_of_machine number (NoOutput (Panicked halt)) = NoOutput (MachinePanicked number halt)
+ending_of_machine number ending = ending
+
 -- the machine of a reading, all of whose steps were made, and none of which stopped it
 pub record IsThrough (reading : Reading) (world : World) : Type 0 where
   pub machine : IsAfter reading.board (steps_made reading.board (history reading.steps)) world
@@ -98,6 +106,11 @@ pub record IsThrough (reading : Reading) (world : World) : Type 0 where
   pub found : findings_of world ≡ findings_after reading.board (history reading.steps)
   pub final : world.final ≡ true
   pub settled : AreSettled world.states
+
+-- the machines of these readings, one for one and in their order, all of whose steps were made, none of which stopped
+-- its machine
+abbrev pub AreThrough : List Reading → List World → Type 0
+AreThrough readings machines = AllZip IsThrough readings machines
 
 -- the machine of a reading was brought up whole, and is left after those that were there
 pub record IsUp (reading : Reading) (old new : List World) : Type 0 where

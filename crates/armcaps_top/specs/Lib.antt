@@ -4,9 +4,11 @@ pub mod Mrs
 pub mod Patch
 pub mod Elf
 pub mod Jump
+pub mod Pool
 pub mod Audit
 pub mod Demo
 pub mod Answer
+pub mod PooledMachines
 pub mod Laws
 pub mod Features
 pub mod Ending

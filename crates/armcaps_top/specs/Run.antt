@@ -14,7 +14,7 @@ use Rattle.armcaps_top.specs.Document.{Document}
 use Rattle.armcaps_top.specs.Ending.{output_status, status_of}
 use Rattle.armcaps_top.specs.Telling.{Tells}
 use Rattle.armcaps_top.specs.declared.commands.Command.{Command}
-use Rattle.armcaps_top.specs.declared.commands.Command.TheVariants.{Ask, Patch, Elf, Jump, Audit, Demo}
+use Rattle.armcaps_top.specs.declared.commands.Command.TheVariants.{Ask, Patch, Elf, Jump, Pool, Audit, Demo}
 use Rattle.armcaps_top.specs.declared.commands.Query.TheVariants.{Report, Mrs, Trace}
 use Rattle.armcaps_top.specs.declared.ending.Ending.{Ending}
 use Rattle.armcaps_top.specs.declared.ending.Ending.TheVariants.{Done, ReadFault, WriteFault, Memory, NoOutput}
@@ -23,13 +23,14 @@ use Rattle.armcaps_top.specs.declared.refusal.Refusal.{Refusal}
 use Rattle.armcaps_top.specs.declared.refusal.Refusal.TheVariants.{TooLong}
 
 -- of its input a command reads at most so many bytes: one more than the greatest limit, which is that of format 2, or
--- under `audit` than its own; nothing where the words are no form, and nothing under `demo`
+-- under `pool` and `audit` than their own; nothing where the words are no form, and nothing under `demo`
 abbrev pub most_read : Option Command → ℕ
 most_read None = 0
 most_read (Some (Ask query)) = 537919489
 most_read (Some Patch) = 537919489
 most_read (Some (Jump table count)) = 537919489
 most_read (Some Elf) = 537919489
+most_read (Some Pool) = 67108865
 most_read (Some Audit) = 269484033
 most_read (Some (Demo seed cores)) = 0
 
@@ -46,6 +47,7 @@ statuses_of (Some (Ask (Mrs core word))) = 0 ∷ 3 ∷ 4 ∷ 5 ∷ 6 ∷ 7 ∷ 9
 statuses_of (Some Patch) = 0 ∷ 3 ∷ 4 ∷ 5 ∷ 6 ∷ 7 ∷ 8 ∷ []
 statuses_of (Some (Jump table count)) = 0 ∷ 3 ∷ 4 ∷ 5 ∷ 6 ∷ 7 ∷ 8 ∷ 11 ∷ []
 statuses_of (Some Elf) = 0 ∷ 3 ∷ 4 ∷ 5 ∷ 6 ∷ 7 ∷ 8 ∷ 10 ∷ []
+statuses_of (Some Pool) = 0 ∷ 3 ∷ 4 ∷ 5 ∷ 6 ∷ 7 ∷ []
 statuses_of (Some Audit) = 0 ∷ 3 ∷ 4 ∷ 5 ∷ 6 ∷ 7 ∷ 8 ∷ 12 ∷ []
 statuses_of (Some (Demo seed cores)) = 0 ∷ 5 ∷ 6 ∷ []
 

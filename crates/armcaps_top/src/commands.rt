@@ -13,6 +13,7 @@ pub mod elf;
 pub mod jump;
 pub mod mrs;
 pub mod patch;
+pub mod pool;
 pub mod report;
 pub mod trace;
 
@@ -42,6 +43,8 @@ pub enum Command {
     Jump { table: u32, count: u32 },
     /// The ELF file, patched for the machine.
     Elf,
+    /// The best register set that each of several machines accepts.
+    Pool,
     /// Whether a second image is the first one, patched for the machine.
     Audit,
     /// What comes of a machine with so many cores and of its image, both made from a seed.
@@ -75,6 +78,8 @@ fn command_named(name: &str) -> Option<Command>
         Some(Command::Ask(Query::Trace))
     } else if name == "elf" {
         Some(Command::Elf)
+    } else if name == "pool" {
+        Some(Command::Pool)
     } else if name == "audit" {
         Some(Command::Audit)
     } else {

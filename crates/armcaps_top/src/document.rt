@@ -1,18 +1,18 @@
 //! What an input is.
 
-ghost use Rattle.std.specs.Prelude.{◌≡◌, ◌≤◌, ◌+◌, ◌*◌, IfOk, IfErr, Ok, drop, length};
+ghost use Rattle.std.specs.Prelude.{◌≡◌, ◌<◌, ◌≤◌, ◌+◌, ◌*◌, IfOk, IfErr, Ok, drop, length, map};
 ghost use Rattle.std.specs.List.{All};
 ghost use Rattle.armcaps_alt.specs.Names.{IsKnown};
 ghost use Rattle.armcaps_text.specs.Document.{reading_of};
 ghost use Rattle.armcaps_text.specs.Formats.{format_of};
 ghost use Rattle.armcaps_text.specs.Sound.{IsSound};
-ghost use Rattle.armcaps_top.specs.Document.{document, document_pair, image_refusal};
+ghost use Rattle.armcaps_top.specs.Document.{document, document_pair, documents, documents_after, image_refusal};
 ghost use Rattle.armcaps_top.specs.Inside.{IsRefusedSo};
 
 use crate::ending::Ending;
 use crate::reason::Reason;
 use crate::refusal::Refusal;
-use armcaps_text::{Machine, TextRefused};
+use armcaps_text::{Machine, TextRefused, TextsUnread, read_texts};
 use std::alloc::Global;
 
 // Why so many bytes after a text are not those of an image of this length.
@@ -78,5 +78,25 @@ pub fn machine_of_pair(alloc: Global, bytes: &[u8]) -> Result<(Machine, usize), 
     match image_refusal(2 * machine.image, bytes.len() - place) {
         None => Ok((machine, place)),
         Some(refusal) => Err(Ending::NoOutput(Reason::Refused(refusal))),
+    }
+}
+
+/// The machines of the documents that an input is whose texts stand one after the other, or else why it is none. It has
+/// at most 67,108,864 bytes.
+#[tactic(auto, unfolding(crate::specs::Document::documents))]
+pub fn machines_of(alloc: Global, bytes: &[u8]) -> Result<Vec<Machine>, Ending>
+    requires { length bytes.now ≤ 67108864 }
+    ensures documents { IfOk result (λ read. documents bytes.now ≡ documents_after (Ok (map reading_of read.items))) }
+    ensures some { IfOk result (λ read. 0 < length read.items) }
+    ensures few { IfOk result (λ read. length read.items ≤ 64) }
+    ensures sound { IfOk result (λ read. All (λ machine. IsSound (reading_of machine)) read.items) }
+    ensures refused { IfErr result (IsRefusedSo (documents bytes.now)) }
+{
+    match read_texts(alloc, bytes) {
+        Ok(machines) => Ok(machines),
+        Err(TextsUnread::Refused(refused)) => {
+            Err(Ending::NoOutput(Reason::Refused(Refusal::Texts(refused))))
+        }
+        Err(TextsUnread::Memory) => Err(Ending::Memory),
     }
 }

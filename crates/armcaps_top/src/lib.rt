@@ -9,10 +9,12 @@ mod ending;
 mod kept_bytes;
 pub mod laws;
 pub mod patch_laws;
+pub mod pool_laws;
 mod program;
 mod reading;
 mod reason;
 mod refusal;
+mod refusing;
 mod telling;
 #[cfg(test)]
 mod tests;

@@ -13,6 +13,7 @@ use crate::commands::demo::demo;
 use crate::commands::elf::elf;
 use crate::commands::jump::jump;
 use crate::commands::patch::patch;
+use crate::commands::pool::pool;
 use crate::ending::Ending;
 use crate::reading::read_for;
 use crate::reason::Reason;
@@ -40,6 +41,7 @@ fn answer<O: Sink>(
         Command::Ask(query) => write_text(out, ask(alloc, query, bytes, machines)),
         Command::Patch => patch(alloc, bytes, out, machines),
         Command::Elf => elf(alloc, bytes, out, machines),
+        Command::Pool => write_text(out, pool(alloc, bytes, machines)),
         Command::Audit => write_text(out, audit(alloc, bytes, machines)),
         Command::Jump { table, count } => jump(alloc, table, count, bytes, out, machines),
         Command::Demo { seed, cores } => write_text(out, demo(alloc, seed, cores, machines)),
@@ -72,21 +74,24 @@ fn perform<S: Source, O: Sink>(
 /// to `out` the report, the image patched for the machine, what a program on the core reads by the instruction, the
 /// trace of the steps, the ELF file that the image is, patched for the machine, the patched image with its jump
 /// labels applied, which the table of COUNT entries at OFFSET has, or whether a second image behind the first is the
-/// patched one. Where they are `demo SEED CORES`, reads nothing, makes a machine and its image from the seed, and
-/// writes what comes of both: only the statuses 0, 5 and 6 come.
+/// patched one. Where they are `pool`, reads 1 to 64 texts without an image, one after the other, makes the steps of
+/// each, and writes the best register set that all machines accept, and the machine that limits each field. Where they
+/// are `demo SEED CORES`, reads nothing, makes a machine and its image from the seed, and writes what comes of both:
+/// only the statuses 0, 5 and 6 come.
 /// Every other status than 0 has a line on `err`. `machines` has to be empty, and gets the machine that was brought
-/// up: one in the statuses 0, 5 and 7 to 12, and none in 2 to 4. Of no input more than 537,919,489 bytes are read.
+/// up: one in the statuses 0, 5 and 7 to 12, and none in 2 to 4; under `pool` in 0, 5 and 7 those of all texts, up to
+/// the first that a step stops. Of no input more than 537,919,489 bytes are read.
 ///
 /// - 0: done.
 /// - 2: the words are no form. They are judged without memory, and nothing is read.
 /// - 3: the input is no document: a line of its text is refused, it has more bytes than its format allows (135,266,304,
-///   or 537,919,488 in format 2; under `audit` 269,484,032 in both), or fewer or more bytes follow the text than the
-///   image has, or under `audit` than two images have. Of an input that is too
-///   long exactly one byte more than the limit is read.
+///   or 537,919,488 in format 2; in both under `pool` 67,108,864 and under `audit` 269,484,032), or fewer or more bytes
+///   follow the text than the image has, or under `audit` than two images have; or under `pool` a text has an image, or
+///   bytes follow the 64th text. Of an input that is too long exactly one byte more than the limit is read.
 /// - 4: `input` failed.
 /// - 5: `out` failed, and has a first part of the output.
 /// - 6: there was no memory, before the first byte to `out`.
-/// - 7: a step stops the machine.
+/// - 7: a step stops the machine, or under `pool` one of them.
 /// - 8: an entry of the table of alternatives is refused.
 /// - 9: the core of `mrs` is not admitted, or its word reads no register.
 /// - 10: the image of `elf` is refused as an ELF file of a kernel, or an entry that is selected isn't loaded.

@@ -102,6 +102,7 @@ pub fn read_for<S: Source>(
         Command::Ask(_) | Command::Patch | Command::Elf | Command::Jump { .. } => {
             read_input(alloc, source)
         }
+        Command::Pool => read_within(alloc, source, 67_108_864),
         Command::Audit => read_within(alloc, source, 269_484_032),
         Command::Demo { .. } => Ok(Vec::new(alloc)),
     }

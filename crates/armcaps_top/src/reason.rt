@@ -15,6 +15,8 @@ pub enum Reason {
     Refused(Refusal),
     /// A step stopped the machine.
     Panicked(Halt),
+    /// A step stopped a machine of several, the first of which this is so, counted from 0.
+    MachinePanicked { machine: u32, halt: Halt },
     /// This entry of the table is the first that is refused, for this kind.
     NotPatched { entry: u32, kind: PatchKind },
     /// A program reads nothing there.
@@ -41,7 +43,7 @@ impl Reason {
         match self {
             Reason::Usage => 2,
             Reason::Refused(_) => 3,
-            Reason::Panicked(_) => 7,
+            Reason::Panicked(_) | Reason::MachinePanicked { .. } => 7,
             Reason::NotPatched { .. } => 8,
             Reason::NotRead(_) => 9,
             Reason::NotElf { .. } | Reason::NotLoaded { .. } => 10,

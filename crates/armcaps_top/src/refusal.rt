@@ -1,6 +1,6 @@
 //! Why an input is no document.
 
-use armcaps_text::TextKind;
+use armcaps_text::{TextKind, TextsRefused};
 
 /// Why an input is no document.
 #[derive(Clone, Copy)]
@@ -13,4 +13,6 @@ pub enum Refusal {
     ImageShort { got: usize, of: u32 },
     /// So many bytes follow the image.
     Trailing { extra: usize },
+    /// One of several texts is refused or has an image, or there are too many.
+    Texts(TextsRefused),
 }

@@ -5,27 +5,23 @@ ghost use Rattle.std.specs.Fmt.{decimal};
 ghost use Rattle.armcaps_report.specs.Extending.{Extends};
 ghost use Rattle.armcaps_report.specs.Texts.{cause_text};
 ghost use Rattle.armcaps_report.specs.UserReads.{read_refused_text};
-ghost use Rattle.armcaps_top.specs.Document.{refused_text};
 ghost use Rattle.armcaps_top.specs.Elf.{elf_entry_text, elf_kind_text};
 ghost use Rattle.armcaps_top.specs.Ending.{ending_text, halt_text, reason_text};
 ghost use Rattle.armcaps_top.specs.Jump.{label_kind_word, labels_refused_text};
 ghost use Rattle.armcaps_top.specs.Patch.{entry_text};
 ghost use Rattle.armcaps_top.specs.Telling.{Tells, ending_line};
-ghost use Rattle.armcaps_top.specs.declared.refusal.Refusal.TheVariants as Refusal;
 
 use crate::commands::elf::elf_word;
 use crate::commands::jump::LabelsRefused;
 use crate::ending::Ending;
 use crate::reason::Reason;
-use crate::refusal::Refusal;
+use crate::refusing::push_refusal;
 use armcaps_alt::PatchKind;
 use armcaps_boot::{Cause, Halt};
 use armcaps_io::{Sink, write_whole};
 use armcaps_report::{
-    ReadRefused, Text, push_after, push_between, push_cause, push_kind, push_part,
-    push_read_refused,
+    ReadRefused, Text, push_after, push_between, push_cause, push_kind, push_read_refused,
 };
-use armcaps_text::TextKind;
 use arrayvec::ArrayString;
 
 /// Writes the line of an ending to the error stream, and nothing where the run is done. A fault there changes no
@@ -40,10 +36,10 @@ pub fn tell<E: Sink>(err: &mut E, ending: Ending)
 }
 
 // The line of an ending. No line is longer than the buffer.
-fn line_of(ending: Ending) -> ArrayString<256>
+fn line_of(ending: Ending) -> ArrayString<320>
     ensures { result.bytes ≡ ending_line ending }
 {
-    let mut line = ArrayString::<256>::new();
+    let mut line = ArrayString::<320>::new();
     let _ = push_line(&mut line, ending);
     line
 }
@@ -78,10 +74,12 @@ fn push_reason<T: Text>(text: &mut T, reason: Reason) -> Result<(), T::Error>
 {
     match reason {
         Reason::Usage => text.append(
-            "usage: armcaps report | patch | mrs CORE WORD | demo SEED CORES | trace | elf | jump OFFSET COUNT | audit",
+            "usage: armcaps report | patch | mrs CORE WORD | demo SEED CORES | trace | elf | jump OFFSET COUNT \
+            | pool | audit",
         ),
         Reason::Refused(refusal) => push_refusal(text, refusal),
         Reason::Panicked(halt) => push_panic(text, halt),
+        Reason::MachinePanicked { machine, halt } => push_machine_panic(text, machine, halt),
         Reason::NotPatched { entry, kind } => push_not_patched(text, entry, kind),
         Reason::NotRead(unread) => push_not_read(text, unread),
         Reason::NotElf { kind } => push_not_elf(text, kind),
@@ -91,60 +89,21 @@ fn push_reason<T: Text>(text: &mut T, reason: Reason) -> Result<(), T::Error>
     }
 }
 
-// Adds why an input is no document.
-fn push_refusal<T: Text>(text: &mut T, refusal: Refusal) -> Result<(), T::Error>
-    ensures { Extends result T.refused_from (T.bytes text.old) (T.bytes text.new) (refused_text refusal) }
-{
-    match refusal {
-        Refusal::Line { line, kind } => push_place(text, line, kind),
-        Refusal::TooLong { limit } => push_limit(text, limit),
-        Refusal::ImageShort { got, of } => push_shortage(text, got, of),
-        Refusal::Trailing { extra } => push_trailing(text, extra),
-    }
-}
-
-// Adds where a text is refused, and why.
-#[tactic(auto, unfolding(crate::specs::Document::refused_text, armcaps_text::specs::Refusal::refusal_text))]
-fn push_place<T: Text>(text: &mut T, line: u32, kind: TextKind) -> Result<(), T::Error>
-    ensures { Extends result T.refused_from (T.bytes text.old) (T.bytes text.new)
-        (refused_text (Refusal.Line line kind)) }
-{
-    push_kind(text, "line ", line, kind.number(), kind.word())
-}
-
-// Adds how many bytes an input may have.
-#[tactic(auto, unfolding(crate::specs::Document::refused_text))]
-fn push_limit<T: Text>(text: &mut T, limit: usize) -> Result<(), T::Error>
-    ensures { Extends result T.refused_from (T.bytes text.old) (T.bytes text.new)
-        (refused_text (Refusal.TooLong limit)) }
-{
-    push_between(text, "input longer than ", limit as u64, " bytes")
-}
-
-// Adds how many bytes of an image are there.
-#[tactic(auto, unfolding(crate::specs::Document::refused_text))]
-fn push_shortage<T: Text>(text: &mut T, got: usize, of: u32) -> Result<(), T::Error>
-    ensures { Extends result T.refused_from (T.bytes text.old) (T.bytes text.new)
-        (refused_text (Refusal.ImageShort got of)) }
-{
-    push_part(text, "image short: ", got as u64, u64::from(of), " bytes")
-}
-
-// Adds how many bytes follow a document.
-#[tactic(auto, unfolding(crate::specs::Document::refused_text))]
-fn push_trailing<T: Text>(text: &mut T, extra: usize) -> Result<(), T::Error>
-    ensures { Extends result T.refused_from (T.bytes text.old) (T.bytes text.new)
-        (refused_text (Refusal.Trailing extra)) }
-{
-    push_after(text, "trailing bytes: ", extra as u64)
-}
-
 // Adds what stopped a machine, as a panic.
 #[tactic(auto, unfolding(crate::specs::Ending::halt_text))]
 fn push_panic<T: Text>(text: &mut T, halt: Halt) -> Result<(), T::Error>
     ensures { Extends result T.refused_from (T.bytes text.old) (T.bytes text.new) (codes "panic: " ++ halt_text halt) }
 {
     push_stop(text, "panic: core ", halt.core, halt.cause)
+}
+
+// Adds which of several machines was stopped, and what stopped it.
+fn push_machine_panic<T: Text>(text: &mut T, machine: u32, halt: Halt) -> Result<(), T::Error>
+    ensures { Extends result T.refused_from (T.bytes text.old) (T.bytes text.new)
+        (codes "machine " ++ decimal machine ++ codes ": panic: " ++ halt_text halt) }
+{
+    push_between(text, "machine ", u64::from(machine), ": ")?;
+    push_panic(text, halt)
 }
 
 // Adds which entry of a table is refused, and why.

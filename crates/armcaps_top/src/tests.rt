@@ -58,7 +58,7 @@ end
 
 const USAGE: &str =
     "armcaps: usage: armcaps report | patch | mrs CORE WORD | demo SEED CORES | trace | elf \
-    | jump OFFSET COUNT | audit\n";
+    | jump OFFSET COUNT | pool | audit\n";
 
 /// What a run answers, what its streams hold then, and the machines that it leaves.
 #[derive(Drop)]
@@ -202,7 +202,8 @@ fn refusals(rt: HostRuntime) -> Result<(), Fail> {
 /// Words that are no form.
 #[test]
 fn usage(rt: HostRuntime) -> Result<(), Fail> {
-    let lines = ";banana;reports;report report;patch 1;trace 1;elf 1;ELF;audit 1;audits;Audit;\
+    let lines =
+        ";banana;reports;report report;patch 1;trace 1;elf 1;ELF;audit 1;audits;Audit;pool 1;pools;Pool;\
         mrs;mrs 0;mrs 0 12;mrs 0 0x;mrs 0 0X1f;mrs 0 0xg;mrs 0 0x123456789;\
         mrs 0x0 0x1f;mrs 0123456789 0x1f;mrs 0 0x1f 0;\
         demo;demo 1;demo 1 8 1;demo 1 0;demo 1 65;demo 1 008;demo 4294967296 8;demo 00000000001 8;demo 0x1 8";

@@ -3,7 +3,7 @@ use Rattle.armcaps_top.specs.Answer.{answer_of}
 use Rattle.armcaps_top.specs.Inside.{Ends}
 use Rattle.armcaps_top.specs.Run.{change}
 use Rattle.armcaps_top.specs.declared.commands.Command.{Command}
-use Rattle.armcaps_top.specs.declared.commands.Command.TheVariants.{Ask, Audit, Demo}
+use Rattle.armcaps_top.specs.declared.commands.Command.TheVariants.{Ask, Pool, Audit, Demo}
 use Rattle.armcaps_top.proofs.program.answer.Goals as goal
 
 pub returns-in-Ask : goal.returns-in-Ask
@@ -11,6 +11,12 @@ returns-in-Ask g c =
     subst (λ (command : Command). Ends command (answer_of command c.args.bytes.now) (change g.O.Sink.held g.O.Sink.faults c.args.out.now c.write_text.new.out)
     c.ask.new.machines.items c.write_text.result) (sym c.in-Ask.is)
     (c.write_text.ensures (Ask c.in-Ask.query) (answer_of (Ask c.in-Ask.query) c.args.bytes.now) c.ask.new.machines.items c.ask.ensures)
+
+pub returns-in-Pool : goal.returns-in-Pool
+returns-in-Pool g c =
+    subst (λ (command : Command). Ends command (answer_of command c.args.bytes.now) (change g.O.Sink.held g.O.Sink.faults c.args.out.now c.write_text-in-Pool.new.out)
+    c.pool.new.machines.items c.write_text-in-Pool.result) (sym c.in-Pool.is)
+    (c.write_text-in-Pool.ensures Pool (answer_of Pool c.args.bytes.now) c.pool.new.machines.items c.pool.ensures)
 
 pub returns-in-Audit : goal.returns-in-Audit
 returns-in-Audit g c =
