@@ -2,6 +2,7 @@ mod auditing;
 mod elves;
 mod jumping;
 mod patching;
+mod pooling;
 mod rows;
 mod streams;
 
