@@ -13,8 +13,8 @@ use std::alloc::Global;
 /// Why machine texts that stand one after the other are refused. Texts are counted from 0.
 #[derive(Clone, Copy)]
 pub enum TextsRefused {
-    /// The first text that is refused or has an image is this one, and is refused at this line, counted from 1, for this
-    /// kind.
+    /// The first text that is refused or has an image is this one, and is refused at this line, counted from 1, for
+    /// this kind.
     Line {
         number: u32,
         line: u32,
