@@ -70,14 +70,16 @@ fn perform<S: Source, O: Sink>(
 }
 
 /// Runs the program: `words` is the command line without the program's name. Where they are `report`, `patch`, `mrs
-/// CORE WORD`, `trace`, `elf`, `jump OFFSET COUNT` or `audit`, reads a document from `input`, makes its steps and writes
-/// to `out` the report, the image patched for the machine, what a program on the core reads by the instruction, the
-/// trace of the steps, the ELF file that the image is, patched for the machine, the patched image with its jump
-/// labels applied, which the table of COUNT entries at OFFSET has, or whether a second image behind the first is the
-/// patched one. Where they are `pool`, reads 1 to 64 texts without an image, one after the other, makes the steps of
-/// each, and writes the best register set that all machines accept, and the machine that limits each field. Where they
-/// are `demo SEED CORES`, reads nothing, makes a machine and its image from the seed, and writes what comes of both:
-/// only the statuses 0, 5 and 6 come.
+/// CORE WORD`, `trace`, `elf`, `jump OFFSET COUNT` or `audit`, reads a document from `input`, makes its steps and
+/// writes to `out` the report, the image patched for the machine, what a program on the core reads by the instruction,
+/// the trace of the steps, the ELF file that the image is, patched for the machine, the patched image with the jump
+/// labels of its table applied, or whether a second image behind the first is the patched one.
+///
+/// Where they are `pool`, reads 1 to 64 texts without an image, one after the other, makes the steps of each, and
+/// writes the best register set that all machines accept, and the machine that limits each field. Where they are
+/// `demo SEED CORES`, reads nothing, makes a machine and its image from the seed, and writes what comes of both: only
+/// the statuses 0, 5 and 6 come.
+///
 /// Every other status than 0 has a line on `err`. `machines` has to be empty, and gets the machine that was brought
 /// up: one in the statuses 0, 5 and 7 to 12, and none in 2 to 4; under `pool` in 0, 5 and 7 those of all texts, up to
 /// the first that a step stops. Of no input more than 537,919,489 bytes are read.
