@@ -62,8 +62,8 @@ end
 $ with pool
 machines 3
 reg ctr_el0 0x0000000080448004
-limit ctr.cwg 2
 limit ctr.erg 0
+limit ctr.cwg 2
 == a size that the first has
 armcaps 1
 core 0
