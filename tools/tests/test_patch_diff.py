@@ -84,7 +84,7 @@ class Small(unittest.TestCase):
         (self.folder / "patched").write_bytes(patched)
         done = self.answer()
         self.assertEqual(done.returncode, 1)
-        self.assertIn(b"1 words differ in no site of a selected entry, the first at 0x400", done.stderr)
+        self.assertIn(b"1 word differs in no site of a selected entry, the first at 0x400", done.stderr)
 
     def test_refusals(self):
         for options, word in [
