@@ -1,6 +1,6 @@
 # The program, its check, and an installed copy with its manual page, pages, tools and examples. All proving is done by `rt`.
 #
-#   make             proves the program and builds it: some minutes and up to 4 GB the first time, seconds after that
+#   make             proves the program and builds it: some 20 minutes and up to 4 GB the first time, seconds after that
 #   make try         runs it on an example within some twenty seconds, before any proof; COMMAND and TEXT name another
 #   make test        all that can be seen without a proof, in some three minutes: tests, examples, tools and pages
 #   make check       the gate, and the checks of pages and tools after it
