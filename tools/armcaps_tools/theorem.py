@@ -41,13 +41,13 @@ TABLES = {
 HEAD = """<!-- Written by tools/definitions from the contracts and definitions of the crates. Do not edit. -->
 # The theorem
 
-A run of `armcaps` ends. Where its status is 0, the bytes that its command works on bring up machines that no step
-stops, and it wrote exactly what the command makes of those bytes, and nothing else: registers, capabilities, hwcaps,
+A run of `armcaps` ends. Where its status is 0, no step stops a machine that the input describes, and what was written
+is exactly what the command makes of the input, and nothing else: registers, capabilities, hwcaps,
 vector lengths and patched words as they are defined below, for every order in which the cores came up. Each core that
 was admitted has every system feature that is enabled, and each workaround that such a core needs is enabled. Any
 other status says why nothing was written, or that a stream failed or there was no memory, and the error stream got
 the line that says so, or a first part of it where it failed itself. The checker has proved this of
-`armcaps_top::run`, whose contract is the record `Promises`. Bytes are spoken of where the source tells its bytes and
+`armcaps_top::run` ([its contract](../crates/armcaps_top/src/program.rt)), which cites the record `Promises`. Bytes are spoken of where the source tells its bytes and
 the sink what it holds, as those in memory do; README.md says what is left of it over real streams.
 
 This page is all that has to be believed of that: `Promises`, and each definition that it rests on, as it stands in
@@ -56,7 +56,8 @@ within a subject. It is {definitions} definitions in {lines} lines without comme
 lines of tables, in {rows} lines, which are read beside the manual and Linux in docs/FIELDS.md, docs/CAPABILITIES.md
 and docs/HWCAPS.md. Functions compute; relations and records, whose names begin with a capital letter, say what holds.
 `abbrev` and `unfoldable` only tell the checker when to look inside, `pub` lets other files name it; words that are
-not here are of the toolchain's standard library.
+not here are of the toolchain's standard library. [One statement](ARCHITECTURE.md#one-statement-from-the-top-to-the-bottom)
+is followed from the top to the bottom in ARCHITECTURE.md.
 
 """
 
@@ -93,7 +94,8 @@ def block(definition):
     """A definition as its file has it, with its comment, and where it stands."""
     comment = definition.comment
     told = f"{comment[0].upper()}{comment[1:]}." if comment else ""
-    where = f"({definition.crate[8:]}, {definition.file})"
+    file = f"../crates/{definition.crate}/specs/{definition.file}.antt"
+    where = f"([{definition.crate[8:]}, {definition.file}]({file}))"
     return f"**{definition.name}** {where}. {told}\n\n```text\n{definition.text.strip()}\n```\n\n"
 
 
@@ -131,6 +133,9 @@ def page(citations):
         "rows": sum(len(lines_of(one)) for one in tabled.values()),
     }
     yield HEAD.format(**counts)
+    filled = {subject_of(key) for key in every}
+    titles = [title for place, (title, _, _) in enumerate(SUBJECTS) if place in filled] + ["Types of the code"]
+    yield "".join(f"- [{title}](#{title.lower().replace(' ', '-')})\n" for title in titles) + "\n"
     for place, (title, about, _) in enumerate(SUBJECTS):
         here = [one for key, one in told.items() if subject_of(key) == place]
         rows = [one for key, one in tabled.items() if subject_of(key) == place]
