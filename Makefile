@@ -20,7 +20,7 @@ ZSHDIR ?= $(DATADIR)/zsh/site-functions
 
 VERSION := $(shell cat VERSION)
 PROGRAM := crates/armcaps/out/armcaps
-TOOLS := dump2text explain cmdline-lint kernel2text patch-diff page
+TOOLS := dump2text explain cmdline-lint kernel2text patch-diff page fleet
 # the pages for users: not those on how armcaps itself is built and proved
 PAGES := $(filter-out docs/README.md docs/ARCHITECTURE.md docs/DEFINITIONS.md docs/DECISIONS.md,$(wildcard docs/*.md)) \
 	docs/parked-or-panic.svg docs/rules.svg docs/site.svg docs/page.png

@@ -18,6 +18,7 @@ USES = {
     "kernel2text": IMAGE,
     "patch-diff": ["{}", "{}", "{}"],
     "page": ["--page", "{}", "{}"],
+    "fleet": ["--judged", "{}"],
 }
 GOOD = {
     "dump2text": ["examples/dumps/gdb.txt"],
@@ -26,6 +27,7 @@ GOOD = {
     "kernel2text": ["--rules"],
     "patch-diff": ["--help"],
     "page": ["--help"],
+    "fleet": ["examples/one-core.txt"],
 }
 
 

@@ -7,7 +7,7 @@ import unittest
 
 from common import PROGRAM, TOP
 
-TOOLS = ["dump2text", "explain", "cmdline-lint", "kernel2text", "patch-diff", "page"]
+TOOLS = ["dump2text", "explain", "cmdline-lint", "kernel2text", "patch-diff", "page", "fleet"]
 
 
 class Installed(unittest.TestCase):
