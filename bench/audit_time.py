@@ -1,10 +1,11 @@
 #!/usr/bin/env python3
 """`audit` of patched images with large tables of alternatives, against `patch` of the same.
 
-Builds nothing: run `make` first. The documents are those of patch_documents.py; the second image is what `patch` writes. For each it
-prints the time of both (the best of some runs each, `patch` with its output piped to cat), the ratio, the processor time that an
-entry costs `audit`, and its memory beyond its input, also as a part of the image; then how its processor time grows from half of the
-entries to all of them. With --document the document is a file, as a kernel's. It is no test: it asserts nothing.
+Builds nothing: run `make` first. The documents are those of patch_documents.py; the second image is what `patch` writes.
+For each it prints the time of both (the best of some runs each, `patch` with its output piped to cat), the ratio, the
+processor time that an entry costs `audit`, and its memory beyond its input, also as a part of the image; then how its
+processor time grows from half of the entries to all of them. With --document the document is a file, as a kernel's. It is
+no test: it asserts nothing.
 
 usage: bench/audit_time.py [PROGRAM [NAME..]]
        bench/audit_time.py PROGRAM --document FILE
@@ -57,7 +58,8 @@ def show(program, folder, name, document, count):
     print(f"{'':14}processor {audit.processor:.3f} s, patch {patch.processor:.3f} s, ", end="")
     print(f"{audit.processor / max(count, 1) * 1e9:.0f} ns an entry")
     beyond = audit.peak - size
-    print(f"{'':14}peak beyond the input {beyond / 1048576:.1f} MiB, 1/{image / max(beyond, 1):.0f} of the image", flush=True)
+    part = image / max(beyond, 1)
+    print(f"{'':14}peak beyond the input {beyond / 1048576:.1f} MiB, 1/{part:.0f} of the image", flush=True)
     if audit.status or audit.told:
         print(f"{'':14}status {audit.status}, {audit.told.decode().strip()}")
     return audit
@@ -77,7 +79,8 @@ def main():
             whole = show(program, folder, name, made(folder, name, count), count)
             if count > 100_000:
                 half = measured(program, folder, made(folder, name, count // 2))[1]
-                print(f"{'':14}{count} entries against {count // 2}: {whole.processor / half.processor:.2f}", flush=True)
+                grown = whole.processor / half.processor
+                print(f"{'':14}{count} entries against {count // 2}: {grown:.2f}", flush=True)
 
 
 if __name__ == "__main__":

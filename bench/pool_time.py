@@ -1,9 +1,9 @@
 #!/usr/bin/env python3
 """`pool` of many machines of many cores, and armcaps-fleet on a fleet of many texts.
 
-Builds nothing: run `make` first. Prints the time (the best of some runs), processor time and memory beyond the input of `pool` on 64
-machines of 512 cores, against `report` on one of them, and on half as many machines; then the time of tools/fleet on a folder of so
-many texts (100,000, or COUNT) of machines of 8 cores, 300 of them different. It is no test: it asserts nothing.
+Builds nothing: run `make` first. Prints the time (the best of some runs), processor time and memory beyond the input of
+`report` and `pool` on one machine of 512 cores, and of `pool` on 32 and on 64 such machines; then the time of tools/fleet on a
+folder of so many texts (100,000, or COUNT) of machines of 8 cores, 300 of them different. It is no test: it asserts nothing.
 
 usage: bench/pool_time.py [PROGRAM [COUNT]]
 """
@@ -27,7 +27,8 @@ def machine(cores, number):
     for core in range(cores):
         midr = 0x410FD092 if core % 4 == 3 else 0x410FD034
         atomic, crc32, ecv = number % 3, 1 + number % 2, number // 6 % 3
-        text += f"core {core}\nmidr_el1 {midr:#x}\nmpidr_el1 {core:#x}\nid_aa64pfr0_el1 {0x100002222 | number % 5 << 28:#x}\n"
+        text += f"core {core}\nmidr_el1 {midr:#x}\nmpidr_el1 {core:#x}\n"
+        text += f"id_aa64pfr0_el1 {0x100002222 | number % 5 << 28:#x}\n"
         text += f"id_aa64dfr0_el1 0x10305106\nid_aa64isar0_el1 {0x1120 | atomic << 20 | crc32 << 16:#x}\n"
         text += f"id_aa64mmfr0_el1 {ecv << 60 | 0x1122:#x}\nctr_el0 0x84448004\ndczid_el0 4\nrevidr_el1 {number}\n"
     return text + "boot 0\n" + "".join(f"online {core}\n" for core in range(1, cores)) + "finalise\nend\n"

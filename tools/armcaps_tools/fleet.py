@@ -78,7 +78,7 @@ def judge(kind):
         kind.verdict = "stops" if isinstance(refusal, pool.Stops) else "refused"
         kind.why = re.sub("^machine 0: ", "", str(refusal))
         return
-    kind.verdict, kind.words = "machine", tuple(found.words.values())
+    kind.verdict, kind.words = "machine", tuple(found.system.values())
 
 
 def judge_all(kinds, jobs, told):
@@ -106,17 +106,23 @@ def line_of(kind):
 
 
 WORD = "0x[0-9a-f]{16}"
-JUDGED = re.compile(rf"(?:(machine)\t(\d+)\t(\w+)\t({WORD}(?: {WORD})*)|(refused|stops)\t(\d+)\t(\w+)\t([^\t]+))\t([^\t]+)")
+JUDGED = {
+    "machine": re.compile(rf"machine\t(\d+)\t(\w+)\t({WORD}(?: {WORD})*)\t([^\t]+)"),
+    "refused": re.compile(r"refused\t(\d+)\t(\w+)\t([^\t]+)\t([^\t]+)"),
+    "stops": re.compile(r"stops\t(\d+)\t(\w+)\t([^\t]+)\t([^\t]+)"),
+}
 
 
 def kind_of(line):
     """The kind that such a line tells of."""
-    found = JUDGED.fullmatch(line)
-    verdict, count, digest, what = [part for part in found.groups()[:8] if part] if found else ("", "0", "", "")
-    words = tuple(int(word, 16) for word in what.split(" ")) if verdict == "machine" else ()
-    if not found or words and len(words) != len(profile.tracked()):
-        raise text.Unreadable(f"no line that --judge printed: {line[:60]}")
-    return Kind(digest, plain(found[9]), int(count), verdict, words, "" if words else what)
+    for verdict, form in JUDGED.items():
+        found = form.fullmatch(line)
+        if found:
+            count, digest, what, name = found.groups()
+            words = tuple(int(word, 16) for word in what.split(" ")) if verdict == "machine" else ()
+            if len(words) in (0, len(profile.tracked())):
+                return Kind(digest, plain(name), int(count), verdict, words, "" if words else what)
+    raise text.Unreadable(f"no line that --judge printed: {line[:60]}")
 
 
 def joined(kinds):
@@ -136,7 +142,7 @@ def fold(field, values):
 
 
 class Fleet:
-    """The machines that were taken, those of equal words as one: how many there are of each, and the first one's name."""
+    """The machines that were taken, those of equal words as one: how many there are of each, and the first's name."""
 
     def __init__(self, kinds, told):
         self.counts, self.names = collections.Counter(), {}
@@ -150,7 +156,7 @@ class Fleet:
         self.place = {name: place for place, name in enumerate(profile.tracked())}
         for field in profile.fields():
             if fold(field, self.values(field)) != self.value(field):
-                raise Refused(f"the baseline's {fields.name_of(field)} is not what its rule makes of the machines' values")
+                raise Refused(f"the baseline's {fields.name_of(field)} is not what its rule makes of the values")
 
     def value(self, field):
         """The baseline's value of a field."""
@@ -178,7 +184,7 @@ class Fleet:
 
 
 def progress():
-    """A call that says how far the work is, on a line of the terminal that it writes over, ten times a second at most."""
+    """A call that says how far the work is, on one line of the terminal, ten times a second at most."""
     if sys.stderr is None or not sys.stderr.isatty():
         return lambda what: None
     last = 0.0

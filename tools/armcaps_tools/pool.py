@@ -1,51 +1,23 @@
 """What `armcaps pool` says of machine texts: the registers that all of their machines can keep to, and which machine
 limits each field."""
 
-import dataclasses
 import re
 import subprocess
+
+from armcaps import read_pool
 
 from . import machine, profile, text
 from .command import Refused
 
 MOST = 64
-HEAD = "armcaps pool 1"
 
 
 class Stops(text.Unreadable):
     """A text whose machine stops at a step."""
 
 
-@dataclasses.dataclass
-class Pool:
-    """What `armcaps pool` printed: how many machines, each register's word, and the machine that limits each field."""
-
-    machines: int
-    words: dict
-    limits: dict
-
-
-def read(data):
-    """The facts of what `armcaps pool` printed."""
-    lines = data.decode("utf-8", "replace").splitlines()
-    if len(lines) < 3 or lines[0] != HEAD or lines[-1] != "end":
-        raise text.Unreadable(f"no pool: it does not begin with `{HEAD}` and end with `end`")
-    found = Pool(0, {}, {})
-    for line in lines[1:-1]:
-        word, *tokens = line.split(" ")
-        if word == "machines":
-            found.machines = int(tokens[0])
-        elif word == "reg":
-            found.words[tokens[0]] = int(tokens[1], 16)
-        elif word == "limit":
-            found.limits[tokens[0]] = int(tokens[1])
-    if list(found.words) != profile.tracked() or len(found.limits) != len(profile.fields()):
-        raise text.Unreadable("no pool: it has not a word for each register, or not a limit for each field")
-    return found
-
-
 def of(given):
-    """The pool of one or more texts, given one after the other. A refusal is told without the program's name."""
+    """The baseline of one or more texts, given one after the other. A refusal is told without the program's name."""
     program = machine.program()
     try:
         done = subprocess.run([program, "pool"], input=given, capture_output=True, check=False)
@@ -56,18 +28,21 @@ def of(given):
         if done.returncode not in (3, 7):
             raise Refused(f"`armcaps pool` failed: {told}")
         raise (Stops if done.returncode == 7 else text.Unreadable)(re.sub("^armcaps: ", "", told))
-    return read(done.stdout)
+    found = read_pool(done.stdout)
+    if list(found.system) != profile.tracked() or len(found.limits) != len(profile.fields()):
+        raise Refused("`armcaps pool` has not a word for each register, or not a limit for each field")
+    return found
 
 
 def text_of(words):
-    """A machine text of one core that has these words, so that its system has them too: no command line changes one, and
-    no other core."""
+    """A machine text of one core that has these words, so that its system has them too: no command line and no other
+    core changes one."""
     registers = "".join(f"{name} {word:#x}\n" for name, word in zip(profile.tracked(), words))
     return f"armcaps 1\ncore 0\n{registers}boot 0\nfinalise\nend\n".encode()
 
 
 def baseline(machines, told=lambda what: None):
-    """The baseline of machines, each told by its words, and for each field the place of the first machine that limits it.
+    """The baseline of machines, each told by its words, and for each field the place of the first that limits it.
 
     A run takes at most 64 texts. So each run but the first begins with the baseline so far, which stands for all
     machines that it was made of; where it limits a field, the machine that did so before does.
@@ -81,6 +56,6 @@ def baseline(machines, told=lambda what: None):
         for field, place in found.limits.items():
             if words is None or place:
                 limits[field] = taken + place - len(begin)
-        words, taken = tuple(found.words.values()), min(taken + own, len(machines))
+        words, taken = tuple(found.system.values()), min(taken + own, len(machines))
         told(f"{taken} of {len(machines)} machines pooled")
     return words, limits

@@ -1,4 +1,4 @@
-"""What fleet says of many machines: the baseline that `armcaps pool` gives, whatever the number of texts and the order in
+"""What fleet says of many machines: the baseline of `armcaps pool`, whatever the number of texts and the runs in
 which they are judged, and which machine limits each field."""
 
 import os
@@ -10,6 +10,8 @@ import unittest
 
 from common import PROGRAM, TOP, report, run, tool
 from armcaps_tools import fields, fleet, pool, profile
+
+from armcaps import read_pool, read_report
 
 EXAMPLES = ["qemu-neoverse-n1", "nosve", "hotplug", "qemu-cortex-a72", "big-little", "one-core"]
 
@@ -74,18 +76,17 @@ class Fleets(unittest.TestCase):
         chance = random.Random(1)
         for _ in range(10):
             words = words_of(values(chance))
-            system = [line.split() for line in report(pool.text_of(words)).decode().splitlines() if line.startswith("reg ")]
-            self.assertEqual([int(word, 16) for _, _, word in system], list(words))
+            self.assertEqual(tuple(read_report(report(pool.text_of(words))).system.values()), words)
 
     def test_a_few_machines_are_those_of_pool(self):
         paths = self.examples()
-        whole = pool.read(run(PROGRAM, "pool", given=b"".join(path.read_bytes() for path in paths)).stdout)
+        whole = read_pool(run(PROGRAM, "pool", given=b"".join(path.read_bytes() for path in paths)).stdout)
         rows = table(self.ran("--all", *paths).stdout)
         self.assertEqual(list(rows), [fields.name_of(field) for field in profile.fields()])
         for name, place in whole.limits.items():
             self.assertEqual(rows[name]["first limited by"], str(paths[place]), name)
         for field in profile.fields():
-            self.assertEqual(int(rows[fields.name_of(field)]["value"]), field.value(whole.words[field.register]))
+            self.assertEqual(int(rows[fields.name_of(field)]["value"]), field.value(whole.system[field.register]))
 
     def test_many_machines(self):
         chance = random.Random(2)
@@ -111,7 +112,7 @@ class Fleets(unittest.TestCase):
         for copy in range(20):
             self.put(f"more/{copy}.txt", paths[copy % 2].read_bytes())
         answer = self.ran("--jobs", 3, self.folder, env={**os.environ, "ARMCAPS": str(program)})
-        self.assertTrue(answer.stdout.startswith(b"26 machines of 6 different texts\n"), answer.stdout[:80])
+        self.assertEqual(answer.stdout.splitlines()[0], b"26 machines of 6 different texts")
         self.assertEqual(log.read_text(encoding="utf-8"), "pool\n" * 7)
 
     def test_texts_that_are_left_out(self):
@@ -130,7 +131,7 @@ class Fleets(unittest.TestCase):
         said = [f"fleet: {self.folder / name}: {why}" for name, (_, why) in bad.items()]
         said[-1] = said[-1].replace("f.txt", "f.txt (and 1 more of this text)")
         self.assertEqual(answer.stderr.decode().splitlines(), said)
-        self.assertTrue(answer.stdout.startswith(b"1 machine of 1 different text; 5 refused, 1 stopped\n"), answer.stdout)
+        self.assertEqual(answer.stdout.splitlines()[0], b"1 machine of 1 different text; 5 refused, 1 stopped")
         answer = self.ran("--strict", self.folder, status=1)
         self.assertEqual((answer.stdout, answer.stderr.decode().splitlines()), (b"", said))
         good.unlink()
@@ -158,8 +159,8 @@ class Fleets(unittest.TestCase):
         self.assertEqual(last.read_bytes(), self.text_of_all(paths))
 
     def text_of_all(self, paths):
-        whole = pool.read(run(PROGRAM, "pool", given=b"".join(path.read_bytes() for path in paths)).stdout)
-        return pool.text_of(whole.words.values())
+        whole = read_pool(run(PROGRAM, "pool", given=b"".join(path.read_bytes() for path in paths)).stdout)
+        return pool.text_of(whole.system.values())
 
     def test_progress_is_for_a_terminal_alone(self):
         answer = self.ran(*self.examples())
