@@ -106,8 +106,6 @@ class Trials:
 
     def pools(self):
         """Pools of examples, refused ones, and one with a machine that a step stops; and a machine of a pool alone."""
-        if self.run("pool", b"").returncode == 2:
-            return "no pools: the program has no such command"
         names = ("late-core", "a57-a53", "qemu-max", "late-core", "big-little")
         texts = [(TOP / f"examples/{name}.txt").read_bytes() for name in names]
         refused, panic = ((TOP / f"examples/{name}.txt").read_bytes() for name in ("refused", "panic"))

@@ -75,6 +75,18 @@ class Calls(unittest.TestCase):
             armcaps.audit(text, b"abcd", b"abc")
         self.assertEqual((caught.exception.status, caught.exception.place), (3, None))
 
+    def test_a_pool_has_a_baseline_or_names_a_machine(self):
+        names = "one-core", "late-core", "a57-a53"
+        texts = [example(f"{name}.txt") for name in names]
+        found = armcaps.pool(texts)
+        own = [armcaps.report(text).system["id_aa64isar0_el1"] & 0xF0 for text in texts]
+        self.assertEqual((found.machines, found.system["id_aa64isar0_el1"] & 0xF0), (3, min(own)))
+        self.assertEqual(found.limits["id_aa64isar0.aes"], own.index(min(own)))
+        with self.assertRaises(armcaps.Error) as caught:
+            armcaps.pool([texts[0], b"x"])
+        error = caught.exception
+        self.assertEqual((error.status, error.machine, error.place, error.kind), (3, 1, 1, 2))
+
     def test_too_little_room_tells_how_much_is_wanted(self):
         text, whole = example("one-core.txt"), example("one-core.report")
         self.assertEqual(_library.call(b"report", text, len(whole) - 1), (5, b"", len(whole), b""))

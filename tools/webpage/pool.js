@@ -37,7 +37,6 @@ function readPool(output) {
 async function showPool(bytes, texts) {
   const turn = state.turn, answer = await engine.run("pool", [bytes]);
   if (turn !== state.turn) return;
-  if (answer.status === 2) return notPooled();
   drawGutter(null);
   if (answer.status !== 0) return showRefusedPool(bytes, texts, answer);
   const machines = [];
@@ -52,12 +51,6 @@ async function showPool(bytes, texts) {
   Object.assign(state, { pool, report: null, machine: null });
   drawMachines();
   drawFields();
-}
-
-/** What a program that knows no pools says of the input. */
-function notPooled() {
-  document.body.classList.remove("pool");
-  return showText(textBytes());
 }
 
 /** Machines by equal words of their systems, each kind by the first of them. */
