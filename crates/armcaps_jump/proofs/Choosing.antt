@@ -42,7 +42,7 @@ find_fails test (x ∷ xs) none (suc k) d within = elim (cases_Bool (test x)) [
 ]
 
 -- where no entry is refused no kind holds of one
-pub none_holds : (image : List ℕ) (table count k : ℕ) → first_refusal image table count ≡ None → k < count
+none_holds : (image : List ℕ) (table count k : ℕ) → first_refusal image table count ≡ None → k < count
     → kind_of image (entry_at image table k) ≡ None
 none_holds image table count k accepted within =
     let test : ℕ → Bool = λ number. is_some (kind_of image (entry_at image table number)) in
@@ -66,7 +66,7 @@ none_holds image table count k accepted within =
     ]
 
 -- the last site that has a byte, by its entry's number
-pub last_site : (image : List ℕ) (table count number place : ℕ) → number < count
+last_site : (image : List ℕ) (table count number place : ℕ) → number < count
     → has_byte place (site_of image (entry_at image table number)) ≡ true
     → ((later : ℕ) → number < later → later < count → has_byte place (site_of image (entry_at image table later)) ≡ false)
     → last_that (has_byte place) (sites_of image table count) ≡ Some (site_of image (entry_at image table number))
@@ -82,7 +82,7 @@ pub record IsFine (image : List ℕ) (entry : JumpEntry) : Type 0 where
   pub within : as_place entry.code + 4 ≤ length image
   pub word : (w : ℕ) × (word_of image entry ≡ Some w)
 
-pub fine : (image : List ℕ) (entry : JumpEntry) → kind_of image entry ≡ None → IsFine image entry
+fine : (image : List ℕ) (entry : JumpEntry) → kind_of image entry ≡ None → IsFine image entry
 fine image entry accepted = elim (cases_Bool (is_aligned entry.code && is_within (length image) entry.code 4)) [
   | inr lacks ↦ (let refused : kind_of image entry ≡ Some 1 = rw lacks refl in absurd (clash _ 1 refused accepted))
   | inl code ↦ elim (cases_Bool (is_within (length image) entry.key 4)) [
@@ -127,7 +127,7 @@ agree false true a = cc
 agree false false a = refl
 
 -- an entry's word is the one that it chooses
-pub chosen_word : (image : List ℕ) (entry : JumpEntry) (w : ℕ) → word_of image entry ≡ Some w
+chosen_word : (image : List ℕ) (entry : JumpEntry) (w : ℕ) → word_of image entry ≡ Some w
     → IsChosen image entry w × (w < 2 ^ 32)
 chosen_word image entry w is = elim (cases_Bool (does_jump image entry)) [
   | inl jumps ↦

@@ -10,7 +10,7 @@ use Rattle.armcaps_jump.specs.Jumped.{byte_by, has_byte}
 use Rattle.armcaps_jump.specs.Standing.{IsInPiece}
 
 -- one site more
-pub byte_by-push : (sites : List Site) (site : Site) (place original : ℕ)
+byte_by-push : (sites : List Site) (site : Site) (place original : ℕ)
     → byte_by (sites ++ site ∷ []) place original
     ≡ cond (has_byte place site) (byte_of site.word (place % 4)) (byte_by sites place original)
 byte_by-push sites site place original = rw (last_that-append (has_byte place) sites (site ∷ [])) (elim (cases_Bool (has_byte place site)) [

@@ -1,13 +1,10 @@
--- The first entry of a table that is refused, and the sites of its entries one after the other.
-use Rattle.std.proofs.Common.{◌≡◌, ◌+◌, ◌<◌, ◌∷◌, ◌++◌, ℕ, List, None, Some, [], arith, get_or, is_some, map, refl, zero-add, ◌∙◌, ap}
+-- The first entry of a table that is refused.
+use Rattle.std.proofs.Common.{◌≡◌, ◌<◌, ℕ, List, None, Some, arith, get_or, is_some, refl, zero-add, ◌∙◌}
 use Rattle.std.specs.List.{find, range_with_len}
-use Rattle.std.proofs.lemmas.List.{map-append}
-use Rattle.std.proofs.lemmas.List.FromFn.{get_or-range_with_len, length-range_with_len, map-range_with_len_more}
+use Rattle.std.proofs.lemmas.List.FromFn.{get_or-range_with_len, length-range_with_len}
 use Rattle.armcaps_logic.proofs.Searches.{find_absent, find_present}
-use Rattle.armcaps_jump.specs.Entries.{entries_of, entry_at}
-use Rattle.armcaps_jump.specs.Jumped.{sites_of}
+use Rattle.armcaps_jump.specs.Entries.{entry_at}
 use Rattle.armcaps_jump.specs.Refusals.{first_refusal, kind_of}
-use Rattle.armcaps_jump.specs.Words.{site_of}
 
 pub none_refused : (image : List ℕ) (table count : ℕ)
     → ((k : ℕ) → k < count → kind_of image (entry_at image table k) ≡ None) → first_refusal image table count ≡ None
@@ -31,9 +28,3 @@ first_refused image table count k kind within before refused =
     let there : get_or (range_with_len 0 count) j 0 ≡ j = get_or-range_with_len 0 count j 0 inside ∙ zero-add j in
     rw (there, before j less) refl) (rw (here, refused) refl) in
     rw (first, here, refused) refl
-
-pub sites_more : (image : List ℕ) (table k : ℕ)
-    → sites_of image table (k + 1) ≡ sites_of image table k ++ site_of image (entry_at image table k) ∷ []
-sites_more image table k =
-    let more = map-range_with_len_more (entry_at image table) 0 k k (zero-add k) in
-    ap (map (site_of image)) more ∙ map-append (site_of image) (entries_of image table k) (entry_at image table k ∷ [])

@@ -1,6 +1,6 @@
 ghost use Rattle.std.specs.Prelude.{◌≡◌, ◌+◌, ◌+ℤ◌, ◌*◌, ◌/◌, ◌<◌, ◌<ℤ◌, ◌≤◌, ◌≤ℤ◌, ◌^◌, length, neg_ℤ, pos};
 ghost use Rattle.armcaps_image.specs.Bytes.{as_signed_quad};
-ghost use Rattle.armcaps_jump.specs.Entries.{entry_from};
+ghost use Rattle.armcaps_jump.specs.Entries.{entry_at, entry_from};
 
 use armcaps_image::{quad, signed};
 
@@ -37,6 +37,18 @@ impl JumpEntry {
             branch: key % 2 == 1,
         }
     }
+}
+
+// The entry of the table that has this number.
+pub(crate) fn entry_at(image: &[u8], table: u32, number: u32) -> JumpEntry
+    requires size { length image.now ≤ 2 ^ 29 }
+    requires within { table + 16 * number + 16 ≤ length image.now }
+    ensures value { result ≡ entry_at image.now table number }
+    ensures low { neg_ℤ (pos (2 ^ 40)) ≤ℤ result.target }
+    ensures high { result.target ≤ℤ pos (2 ^ 41) }
+{
+    let place = table as usize + 16 * number as usize;
+    JumpEntry::read(&image[place..], place as u64)
 }
 
 // What an offset leads to from a place.

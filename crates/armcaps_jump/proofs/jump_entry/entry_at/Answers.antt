@@ -1,6 +1,6 @@
 -- The bytes from the entry's place on are the image's.
 use Rattle.std.proofs.Common.{◌≡◌, ◌+◌, ◌*◌, ◌-◌, arith, drop, length, length-drop, take, take_all}
-use Rattle.armcaps_jump.proofs.checking.entry_at.Goals as goal
+use Rattle.armcaps_jump.proofs.jump_entry.entry_at.Goals as goal
 
 pub returns-clause-value : goal.returns-clause-value
 returns-clause-value c =
