@@ -1,6 +1,10 @@
 -- Words and their bytes, and the first place that passes a test.
-use Rattle.std.proofs.Common.{◌≡◌, ℕ, zero, suc, ◌+◌, ◌-◌, ◌*◌, ◌/◌, ◌^◌, ◌<◌, ◌≤◌, ◌==◌, ◌&&◌, ◌||◌, Bool, true, false, not, cond, nat_le, List, get_or, min, refl, sym, ap, ◌∙◌, inl, inr, arith, add-zero}
-use Rattle.std.proofs.lemmas.Bool.{cases_lt, false≢true}
+use Rattle.std.proofs.Common.{◌≡◌, ℕ, zero, suc, ◌+◌, ◌-◌, ◌*◌, ◌/◌, ◌^◌, ◌<◌, ◌≤◌, ◌==◌, ◌&&◌, ◌||◌, Bool, true, false, not, cond, nat_le, List, drop, get_or, min, take, refl, sym, ap, ◌∙◌, inl, inr, arith, add-zero, eq-eqb}
+use Rattle.std.specs.Str.{bytes_eq}
+use Rattle.std.proofs.lemmas.Bool.{cases_lt, false≢true, le-leb, lt-leb}
+use Rattle.std.proofs.lemmas.List.{get_or-drop, get_or-take}
+use Rattle.std.proofs.lemmas.Slice.Eq.{bytes_eq-Decides}
+use Rattle.std.proofs.Math.Bool.{and-false}
 use Rattle.armcaps_image.specs.Bytes.{byte_of, word_in}
 use Rattle.armcaps_pool.specs.Audits.{differs_at}
 use Rattle.armcaps_pool.specs.Judging.{IsFirst, differ_in, is_changed, is_marked}
@@ -33,27 +37,93 @@ byte_in_word bytes place index small within =
           (let same : place + 2 + 1 ≡ place + 3 = omega arith in ap (λ k. get_or bytes k 0) same)
       which (suc (suc (suc (suc index)))) within = absurd (omega arith)
 
--- whether a byte of a word that is not marked is changed
-pub unmarked_byte : (marks patched image : List ℕ) (number index : ℕ) → ((k : ℕ) → get_or patched k 0 < 256)
-    → ((k : ℕ) → get_or image k 0 < 256) → is_marked marks number ≡ false → index < 4
-    → differ_in (word_in patched (4 * number)) (word_in image (4 * number)) index
-    ≡ is_changed marks patched image (4 * number + index)
-unmarked_byte marks patched image number index patched_small image_small unmarked within =
-    let place : (4 * number + index) / 4 ≡ number = omega arith in
-    let here : is_marked marks ((4 * number + index) / 4) ≡ false = ap (is_marked marks) place ∙ unmarked in
-    let one = byte_in_word patched (4 * number) index patched_small within in
-    let other = byte_in_word image (4 * number) index image_small within in
-    ap (λ b. not (b == byte_of (word_in image (4 * number)) index)) one
-    ∙ ap (λ b. not (get_or patched (4 * number + index) 0 == b)) other
-    ∙ sym (ap (λ m. not m && differs_at patched image (4 * number + index)) here)
+-- a byte of a word differs where the images do
+byte_differs : (patched image : List ℕ) (number one other index : ℕ) → ((k : ℕ) → get_or patched k 0 < 256)
+    → ((k : ℕ) → get_or image k 0 < 256) → one ≡ word_in patched (4 * number) → other ≡ word_in image (4 * number) → index < 4
+    → differ_in one other index ≡ differs_at patched image (4 * number + index)
+byte_differs patched image number one other index patched_small image_small one_is other_is within =
+    ap (λ b. not (b == byte_of other index)) (ap (λ w. byte_of w index) one_is ∙ byte_in_word patched (4 * number) index patched_small within)
+    ∙ ap (λ b. not (get_or patched (4 * number + index) 0 == b))
+    (ap (λ w. byte_of w index) other_is ∙ byte_in_word image (4 * number) index image_small within)
 
--- a byte of a marked word is not changed
-pub marked_byte : (marks patched image : List ℕ) (number index : ℕ) → is_marked marks number ≡ true → index < 4
-    → is_changed marks patched image (4 * number + index) ≡ false
-marked_byte marks patched image number index marked within =
-    let place : (4 * number + index) / 4 ≡ number = omega arith in
-    ap (λ n. not (is_marked marks n) && differs_at patched image (4 * number + index)) place
-    ∙ ap (λ m. not m && differs_at patched image (4 * number + index)) marked
+-- a byte that doesn't differ isn't changed
+unchanged : (marks patched image : List ℕ) (place : ℕ) → differs_at patched image place ≡ false
+    → is_changed marks patched image place ≡ false
+unchanged marks patched image place same =
+    ap (λ d. not (is_marked marks (place / 4)) && d) same ∙ and-false (not (is_marked marks (place / 4)))
+
+-- the first byte in which a word differs is the first that is changed, if the word isn't marked
+pub changed_in_word : (marks patched image : List ℕ) (number one other index : ℕ) → ((k : ℕ) → get_or patched k 0 < 256)
+    → ((k : ℕ) → get_or image k 0 < 256) → one ≡ word_in patched (4 * number) → other ≡ word_in image (4 * number)
+    → IsFirst (differ_in one other) 4 index → (index < 4 → is_marked marks number ≡ false)
+    → IsFirst (λ k. is_changed marks patched image (4 * number + k)) 4 index
+changed_in_word marks patched image number one other index patched_small image_small one_is other_is first unmarked = record {
+  most = first.most;
+  before = λ k earlier.
+      (let most = first.most in
+      unchanged marks patched image (4 * number + k)
+      (sym (byte_differs patched image number one other k patched_small image_small one_is other_is (omega arith))
+      ∙ first.before k earlier));
+  passes = λ within.
+      (let place : (4 * number + index) / 4 ≡ number = omega arith in
+      ap (λ m. not m && differs_at patched image (4 * number + index)) (ap (is_marked marks) place ∙ unmarked within)
+      ∙ sym (byte_differs patched image number one other index patched_small image_small one_is other_is within)
+      ∙ first.passes within);
+}
+
+-- the first place of a word that passes a test, where none before the word does
+pub found_in_word : (test : ℕ → Bool) (begin number end index : ℕ) → begin ≤ number → number < end → index < 4
+    → ((k : ℕ) → k < 4 * number → (nat_le (4 * begin) k && test k) ≡ false)
+    → IsFirst (λ k. test (4 * number + k)) 4 index
+    → IsFirst (λ k. nat_le (4 * begin) k && test k) (4 * end) (4 * number + index)
+found_in_word test begin number end index from below within before first = record {
+  most = omega arith;
+  before = λ k earlier. elim (cases_lt k (4 * number)) [
+    | inl less ↦ before k less
+    | inr more ↦
+        (let place : k ≡ 4 * number + (k - 4 * number) = omega arith in
+        ap (λ b. nat_le (4 * begin) k && b) (ap test place ∙ first.before (k - 4 * number) (omega arith))
+        ∙ and-false (nat_le (4 * begin) k))
+  ];
+  passes = λ inside.
+      ap (λ b. b && test (4 * number + index)) (le-leb (4 * begin) (4 * number + index) (omega arith)) ∙ first.passes within;
+}
+
+-- a word none of whose bytes passes a test
+pub passed_word : (test : ℕ → Bool) (begin number index : ℕ) → 4 ≤ index
+    → ((k : ℕ) → k < 4 * number → (nat_le (4 * begin) k && test k) ≡ false)
+    → IsFirst (λ k. test (4 * number + k)) 4 index
+    → (k : ℕ) → k < 4 * (number + 1) → (nat_le (4 * begin) k && test k) ≡ false
+passed_word test begin number index past before first k below = elim (cases_lt k (4 * number)) [
+  | inl less ↦ before k less
+  | inr more ↦
+      (let place : k ≡ 4 * number + (k - 4 * number) = omega arith in
+      ap (λ b. nat_le (4 * begin) k && b) (ap test place ∙ first.before (k - 4 * number) (omega arith))
+      ∙ and-false (nat_le (4 * begin) k))
+]
+
+-- no byte of equal pieces is changed
+pub equal_piece : (marks patched image : List ℕ) (begin end : ℕ)
+    → bytes_eq (take (end - begin) (drop begin patched)) (take (end - begin) (drop begin image)) ≡ true
+    → (k : ℕ) → k < end → (nat_le begin k && is_changed marks patched image k) ≡ false
+equal_piece marks patched image begin end equal k below =
+    elim (cases_lt k begin) [
+      | inl before ↦ ap (λ b. b && is_changed marks patched image k) (lt-leb begin k before)
+      | inr from ↦
+          ap (λ b. nat_le begin k && b) (unchanged marks patched image k (ap not (eq-eqb _ _ (same from))))
+          ∙ and-false (nat_le begin k)
+    ] where
+      in_piece : (bytes : List ℕ) → begin ≤ k → get_or bytes k 0 ≡ get_or (take (end - begin) (drop begin bytes)) (k - begin) 0
+      in_piece bytes from =
+          (let place : k ≡ begin + (k - begin) = omega arith in
+          ap (λ n. get_or bytes n 0) place ∙ sym (get_or-drop begin bytes (k - begin) 0)
+          ∙ sym (get_or-take (end - begin) (drop begin bytes) (k - begin) 0 (omega arith)))
+
+      pieces : take (end - begin) (drop begin patched) ≡ take (end - begin) (drop begin image)
+      pieces = (bytes_eq-Decides (take (end - begin) (drop begin patched)) (take (end - begin) (drop begin image))).0 equal
+
+      same : begin ≤ k → get_or patched k 0 ≡ get_or image k 0
+      same from = in_piece patched from ∙ ap (λ piece. get_or piece (k - begin) 0) pieces ∙ sym (in_piece image from)
 
 -- the same first place of two tests that agree
 pub first_same : (one other : ℕ → Bool) (size place : ℕ) → ((k : ℕ) → k < size → one k ≡ other k)

@@ -1,17 +1,14 @@
-use Rattle.std.proofs.Common.{◌+◌, ◌*◌, ◌∙◌, ap, sym}
-use Rattle.armcaps_image.specs.Bytes.{word_in}
-use Rattle.armcaps_pool.specs.Judging.{differ_in, is_changed}
-use Rattle.armcaps_pool.proofs.Bytes.{first_same, unmarked_byte}
+use Rattle.std.proofs.Common.{◌∙◌, arith, sym}
+use Rattle.armcaps_pool.proofs.Bytes.{changed_in_word}
+use Rattle.armcaps_pool.proofs.differing.changed_byte.Goals.{else-index-lt4-via-then-index-lt4+else-is_marked, else-index-lt4-via-else-index-lt4}
 use Rattle.armcaps_pool.proofs.differing.changed_byte.Goals as goal
 
-pub returns : goal.returns
-returns c =
-    first_same (differ_in c.word.result c.word-2.result)
-    (λ index. is_changed c.args.marks.now c.args.patched.now c.args.image.now (4 * c.args.number + index)) 4
-    c.differing_byte.result
-    (λ index within.
-    ap (λ w. differ_in w c.word-2.result index) c.word.ensures
-    ∙ ap (λ w. differ_in (word_in c.args.patched.now (4 * c.args.number)) w index) c.word-2.ensures
-    ∙ unmarked_byte c.args.marks.now c.args.patched.now c.args.image.now c.args.number index
-    (λ k. (c.type_inv.patched k).fits) (λ k. (c.type_inv.image k).fits) (sym c.is_marked.ensures ∙ c.if-is_marked.false) within)
-    c.differing_byte.ensures
+pub returns-else-index-lt4 : goal.returns-else-index-lt4
+returns-else-index-lt4 c =
+    changed_in_word c.args.marks.now c.args.patched.now c.args.image.now c.args.number c.word.result c.word-2.result
+    c.differing_byte-index.result (λ k. (c.type_inv.patched k).fits) (λ k. (c.type_inv.image k).fits) c.word.ensures
+    c.word-2.ensures c.differing_byte-index.ensures
+    (λ differs. elim c.else-index-lt4.branch [
+      | else-index-lt4-via-then-index-lt4+else-is_marked w ↦ sym w.is_marked.ensures ∙ w.if-is_marked.false
+      | else-index-lt4-via-else-index-lt4 w ↦ (let past = w.if-index-lt4.false in absurd (omega arith))
+    ])
