@@ -36,9 +36,16 @@ class NotFound(Error):
     """`mrs`: the core runs no program, or the word reads no register that is answered."""
 
 
-def run(words: Union[str, bytes], data: bytes = b"") -> Result:
+def _bytes(text: Union[str, bytes]) -> bytes:
+    """A text, or any object that is like bytes, as bytes."""
+    if isinstance(text, str):
+        return text.encode()
+    return text if isinstance(text, bytes) else bytes(memoryview(text))
+
+
+def run(words: Union[str, bytes], data: Union[str, bytes] = b"") -> Result:
     """Runs a command, as `"mrs 0 0xd5380400"`, over bytes in memory."""
-    line = words.encode() if isinstance(words, str) else words
+    line, data = _bytes(words), _bytes(data)
     room = len(data) + 65536
     status, output, length, told = _library.call(line, data, room)
     if status == 5:
@@ -51,10 +58,6 @@ def _output(words: str, data: bytes) -> bytes:
     if came.status == 0:
         return came.output
     raise (NotFound if came.status == 9 else Error)(came.status, came.line)
-
-
-def _bytes(text: Union[str, bytes]) -> bytes:
-    return text.encode() if isinstance(text, str) else text
 
 
 def report(text: Union[str, bytes]) -> Report:

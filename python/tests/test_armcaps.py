@@ -56,6 +56,15 @@ class Calls(unittest.TestCase):
         self.assertEqual(armcaps.run("repport").status, 2)
         self.assertEqual(armcaps.run(b"report \xff"), armcaps.Result(1, b"", ""))
 
+    def test_inputs_of_other_types(self):
+        text = example("one-core.txt")
+        whole = armcaps.run("report", text)
+        for data in (text.decode(), bytearray(text), memoryview(text)):
+            self.assertEqual(armcaps.run("report", data), whole)
+        for words, data in ((["report"], text), ("report", None), ("report", 7)):
+            with self.assertRaisesRegex(TypeError, "bytes-like"):
+                armcaps.run(words, data)
+
     def test_kernels_that_are_none(self):
         text = example("one-core.txt")
         for call, status in ((armcaps.elf, 10), (lambda text: armcaps.jump(0, 1, text), 11)):
