@@ -18,7 +18,6 @@ use Rattle.armcaps_boot.specs.Answers.{answer_of, finalise_answer, first_in_flig
 use Rattle.armcaps_boot.specs.Causes.{stops_machine}
 use Rattle.armcaps_boot.specs.Changes.{world_after}
 use Rattle.armcaps_boot.specs.Facts.{Facts}
-use Rattle.armcaps_boot.specs.Numbers.{first_of}
 use Rattle.armcaps_boot.specs.States.{is_in_flight}
 use Rattle.armcaps_boot.specs.World.{World, state_at}
 use Rattle.armcaps_boot.proofs.Answering.{IsAnswered, halt_next, length_after, states_stay}

@@ -1,7 +1,6 @@
 -- What the code asks of what it keeps is what the definitions say.
-use Rattle.std.proofs.Common.{◌≡◌, ◌<◌, ℕ, Bool, true, false, not, cond, ◌&&◌, ◌||◌, List, length, Option, Some, None, refl, sym, ◌∙◌, ap, subst}
-use Rattle.std.specs.Prelude.{nat_lt, slice_index_or}
-use Rattle.std.proofs.lemmas.List.{get_or_default}
+use Rattle.std.proofs.Common.{◌≡◌, ◌<◌, ℕ, Bool, true, false, not, cond, ◌&&◌, ◌||◌, List, Option, Some, None, refl, sym, ◌∙◌, ap, subst}
+use Rattle.std.specs.Prelude.{nat_lt}
 use Rattle.std.specs.List.{list_any}
 use Rattle.std.specs.Option.{option_or, option_map}
 use Rattle.armcaps_enc.specs.declared.register.SysReg.TheVariants.{CtrEl0}
@@ -16,7 +15,6 @@ use Rattle.armcaps_boot.specs.declared.cause.Cause.TheVariants.{Asid, Cap, Hwcap
 use Rattle.armcaps_board.specs.Board.{boot_core, core_at}
 use Rattle.armcaps_boot.specs.Answers.{first_in_flight}
 use Rattle.armcaps_boot.specs.Causes.{asid_bits, capability_enabled, cause_at_check, first_conflict, has_capability, has_length, hwcap_advertised, is_system_length, misfit}
-use Rattle.armcaps_boot.specs.Choosing.{chosen}
 use Rattle.armcaps_boot.specs.Facts.{Facts, noted_cores}
 use Rattle.armcaps_boot.specs.Numbers.{first_of, is_in, numbers}
 use Rattle.armcaps_boot.specs.Scopes.{conflict_with, enabled_by, held_at_check, lack_of}

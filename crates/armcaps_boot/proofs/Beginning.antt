@@ -1,16 +1,15 @@
 -- What holds of a machine before its first step.
-use Rattle.std.proofs.Common.{◌≡◌, ◌<◌, ◌≤◌, ◌⊎◌, inl, inr, ℕ, zero, suc, Bool, true, false, ◌&&◌, ◌||◌, List, [], ◌∷◌, ◌++◌, length, Option, None, refl, sym, ◌∙◌, ap, subst, set, replicate, arith, length-set}
+use Rattle.std.proofs.Common.{◌≡◌, ◌<◌, ◌⊎◌, inl, inr, ℕ, zero, suc, Bool, true, false, ◌&&◌, ◌||◌, List, [], ◌∷◌, ◌++◌, length, Option, None, refl, sym, ◌∙◌, ap, subst, set, replicate, arith, length-set}
 use Rattle.std.specs.Prelude.{nat_lt}
 use Rattle.std.specs.List.{list_any, list_all}
 use Rattle.std.proofs.lemmas.Bool.{cases_eq, le-ltb}
-use Rattle.armcaps_enc.specs.declared.register.SysReg.TheVariants.{CtrEl0}
 use Rattle.armcaps_tables.specs.Core.{Core}
 use Rattle.armcaps_board.specs.Board.{Board, IsBoard, boot_core, core_at}
 use Rattle.armcaps_boot.specs.Causes.{asid_bits, cause_at_check, cause_at_verification, first_conflict, has_capability, has_length}
 use Rattle.armcaps_boot.specs.Choosing.{chosen}
 use Rattle.armcaps_boot.specs.Facts.{Facts, IsGathering, IsStateOf, StateFits}
 use Rattle.armcaps_boot.specs.First.{first_states, first_world}
-use Rattle.armcaps_boot.specs.Numbers.{first_of, numbers}
+use Rattle.armcaps_boot.specs.Numbers.{numbers}
 use Rattle.armcaps_boot.specs.States.{is_admitted, is_early}
 use Rattle.armcaps_boot.specs.World.{World, early_cores, state_at}
 use Rattle.armcaps_sanit.specs.System.{IsSystemOf, system_words}

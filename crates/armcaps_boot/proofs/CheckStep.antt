@@ -6,7 +6,7 @@ use Rattle.armcaps_boot.specs.declared.core_state.CoreState.TheVariants.{Checked
 use Rattle.armcaps_board.specs.declared.event.Event.{Event}
 use Rattle.armcaps_board.specs.declared.event.Event.TheVariants.{Check, Local, Store, Offline, Finalise}
 use Rattle.armcaps_boot.specs.declared.past.Past.{Past}
-use Rattle.armcaps_boot.specs.declared.reply.Reply.TheVariants.{Done, Parked, Panicked, Skipped}
+use Rattle.armcaps_boot.specs.declared.reply.Reply.TheVariants.{Done, Parked, Panicked}
 use Rattle.armcaps_board.specs.Board.{Board}
 use Rattle.armcaps_board.specs.Order.{is_fresh_last}
 use Rattle.armcaps_board.specs.Steps.{last_step}
@@ -16,7 +16,7 @@ use Rattle.armcaps_boot.specs.Answers.{check_answer, judged, live_answer}
 use Rattle.armcaps_boot.specs.Causes.{cause_at_check, cause_at_verification, stops_machine}
 use Rattle.armcaps_boot.specs.States.{past_of}
 use Rattle.armcaps_boot.specs.World.{World, state_at}
-use Rattle.armcaps_boot.proofs.Answering.{IsTurnIn, IsAnswered, IsHeldIn, after_moved, after_skipped, check_is, held_in, judged_reply, numbered_in, parked_state, panicked_state, past-same, past_in, running_in, shows, stepped_if_held}
+use Rattle.armcaps_boot.proofs.Answering.{IsTurnIn, IsAnswered, IsHeldIn, after_moved, check_is, held_in, judged_reply, numbered_in, parked_state, panicked_state, past-same, past_in, running_in, shows, stepped_if_held}
 use Rattle.armcaps_boot.proofs.Histories.{early-same, come-same, verified-same}
 use Rattle.armcaps_boot.proofs.Holding.{held_is}
 use Rattle.armcaps_boot.proofs.OwnSteps.{own_number, check_own, skipped, state_next, held_own, early_first, check_held}

@@ -9,7 +9,7 @@ use Rattle.armcaps_sanit.specs.System.{IsSystemOf, merged_words}
 use Rattle.armcaps_sanit.proofs.SystemWords.{is_system_again}
 use Rattle.armcaps_caps.specs.Capabilities.{is_local_scope}
 use Rattle.armcaps_boot.specs.declared.core_state.CoreState.{CoreState}
-use Rattle.armcaps_boot.specs.declared.core_state.CoreState.TheVariants.{Absent, Checked, Updated, Admitted, Offline as Gone, Parked as IsParked, Panicked as HasPanicked}
+use Rattle.armcaps_boot.specs.declared.core_state.CoreState.TheVariants.{Checked, Updated, Admitted, Offline as Gone}
 use Rattle.armcaps_board.specs.declared.event.Event.{Event}
 use Rattle.armcaps_board.specs.declared.event.Event.TheVariants.{Check, Local, Store, Offline, Finalise}
 use Rattle.armcaps_boot.specs.declared.reply.Reply.TheVariants.{Done}
@@ -17,7 +17,6 @@ use Rattle.armcaps_board.specs.Board.{core_at}
 use Rattle.armcaps_boot.specs.Answers.{Answer, answer_of, cause_at_local, check_answer, live_answer, local_answer, numbered, store_answer}
 use Rattle.armcaps_boot.specs.Causes.{cause_at_verification, has_capability, has_length}
 use Rattle.armcaps_boot.specs.Changes.{noted_with, world_after}
-use Rattle.armcaps_boot.specs.Choosing.{chosen}
 use Rattle.armcaps_boot.specs.Facts.{Facts, noted_cores}
 use Rattle.armcaps_boot.specs.Numbers.{is_in}
 use Rattle.armcaps_boot.specs.Returning.{KeepsSystem, comes_back, is_checked, is_gone}
@@ -94,7 +93,7 @@ noted_already false true false all is shown = refl
 noted_already false true true all is shown = let on = shown refl in let bad : false ≡ true = is ∙ on in absurd (let no : ⊥ = cc in no)
 
 -- its capabilities are noted already
-noted_back : (w : World) (f : Facts w) (k : ℕ) → w.final ≡ false → is_admitted (state_at w.states k) ≡ true → noted_with w k ≡ w.noted
+pub noted_back : (w : World) (f : Facts w) (k : ℕ) → w.final ≡ false → is_admitted (state_at w.states k) ≡ true → noted_with w k ≡ w.noted
 noted_back w f k final admitted =
     numbers-same _ _ 53 (λ n within.
     noted_already (is_in w.noted n) (is_local_scope n) (has_capability w.board (core_at w.board.cores k) n)
@@ -129,7 +128,7 @@ kept_back w f k final admitted q =
     (sym ((f.gathering final).common_lengths q) ∙ kept))
 
 -- its registers are merged already
-system_back : (w : World) (f : Facts w) (k : ℕ) → is_admitted (state_at w.states k) ≡ true → merged_words w.system (core_at w.board.cores k) ≡ w.system
+pub system_back : (w : World) (f : Facts w) (k : ℕ) → is_admitted (state_at w.states k) ≡ true → merged_words w.system (core_at w.board.cores k) ≡ w.system
 system_back w f k admitted =
     let among = chosen-among (λ n. is_admitted (state_at w.states n)) w.board.cores k (admitted_within w f is_admitted refl k admitted) admitted in
     is_system_again w.board.overrides among.before among.after (core_at w.board.cores k) w.system (subst (λ (l : List Core). IsSystemOf w.board.overrides l w.system) among.is f.system)

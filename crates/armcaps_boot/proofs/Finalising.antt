@@ -14,9 +14,7 @@ use Rattle.armcaps_board.specs.Board.{core_at}
 use Rattle.armcaps_boot.specs.Answers.{first_in_flight}
 use Rattle.armcaps_boot.specs.Causes.{capability_enabled, cause_at_verification, has_length}
 use Rattle.armcaps_boot.specs.Changes.{final_world}
-use Rattle.armcaps_boot.specs.Choosing.{chosen}
 use Rattle.armcaps_boot.specs.Facts.{Facts, IsDecided, IsParkedFor}
-use Rattle.armcaps_boot.specs.Numbers.{first_of}
 use Rattle.armcaps_boot.specs.States.{is_admitted, is_admitted_past, is_early, is_early_past, is_in_flight, is_late, is_late_past, is_updated, past_of}
 use Rattle.armcaps_boot.specs.World.{World, admitted_cores, early_cores, state_at}
 use Rattle.armcaps_boot.proofs.ChosenCores.{chosen-same, chosen-among}

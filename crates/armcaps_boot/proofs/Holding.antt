@@ -1,5 +1,5 @@
 -- What a step leaves of why a core is held back, and which cores the steps say are admitted.
-use Rattle.std.proofs.Common.{◌≡◌, ◌<◌, ℕ, Bool, true, false, not, ◌&&◌, ◌||◌, List, [], ◌∷◌, length, Option, Some, None, refl, sym, ◌∙◌, ap, if◌then◌else◌}
+use Rattle.std.proofs.Common.{◌≡◌, ℕ, Bool, true, false, not, ◌&&◌, ◌||◌, List, [], ◌∷◌, Option, Some, None, refl, sym, ◌∙◌, ap, if◌then◌else◌}
 use Rattle.std.specs.Prelude.{◌==◌, is_none, is_some}
 use Rattle.std.specs.Option.{option_or}
 use Rattle.std.proofs.lemmas.Bool.Decides.{Decides-eqb}
@@ -17,7 +17,6 @@ use Rattle.armcaps_board.specs.Steps.{is_final, is_step_of, last_step}
 use Rattle.armcaps_boot.specs.Admission.{came_early, early_cores_after, has_come, held_back, is_among_admitted, is_among_early, is_among_late, was_verified}
 use Rattle.armcaps_boot.specs.After.{past_from, state_from, state_of}
 use Rattle.armcaps_boot.specs.Causes.{cause_at_check, cause_at_verification, stops_machine}
-use Rattle.armcaps_boot.specs.Choosing.{chosen}
 use Rattle.armcaps_boot.specs.States.{is_admitted, is_admitted_past, is_early, is_early_past, is_late, is_late_past, past_of}
 use Rattle.armcaps_boot.proofs.ChosenCores.{chosen-same}
 use Rattle.armcaps_board.proofs.Turns.{last-other, last-own}

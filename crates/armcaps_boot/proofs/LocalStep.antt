@@ -6,7 +6,7 @@ use Rattle.armcaps_boot.specs.declared.core_state.CoreState.TheVariants.{Updated
 use Rattle.armcaps_board.specs.declared.event.Event.{Event}
 use Rattle.armcaps_board.specs.declared.event.Event.TheVariants.{Check, Local, Store, Offline, Finalise}
 use Rattle.armcaps_boot.specs.declared.past.Past.{Past}
-use Rattle.armcaps_boot.specs.declared.reply.Reply.TheVariants.{Done, Parked, Skipped}
+use Rattle.armcaps_boot.specs.declared.reply.Reply.TheVariants.{Done, Parked}
 use Rattle.armcaps_board.specs.Board.{Board}
 use Rattle.armcaps_board.specs.Order.{is_checked_last}
 use Rattle.armcaps_board.specs.Steps.{is_final, last_step}
@@ -17,7 +17,7 @@ use Rattle.armcaps_boot.specs.Causes.{cause_at_check, cause_at_verification, sto
 use Rattle.armcaps_boot.specs.Changes.{noted_with}
 use Rattle.armcaps_boot.specs.States.{is_admitted, is_admitted_past, past_of}
 use Rattle.armcaps_boot.specs.World.{World, early_cores, state_at}
-use Rattle.armcaps_boot.proofs.Answering.{IsTurnIn, IsAnswered, IsHeldIn, after_moved, after_skipped, held_in, judged_reply, verification_is, numbered_in, parked_state, past-same, past_in, running_in, shows, stepped_if_held}
+use Rattle.armcaps_boot.proofs.Answering.{IsTurnIn, IsAnswered, after_moved, judged_reply, verification_is, numbered_in, parked_state, past-same, past_in, running_in, shows, stepped_if_held}
 use Rattle.std.proofs.lemmas.Bool.{or_left, or_right}
 use Rattle.armcaps_board.proofs.Turns.{last-own}
 use Rattle.armcaps_boot.proofs.Histories.{early-same, come-same, verified_final}

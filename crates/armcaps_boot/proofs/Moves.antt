@@ -11,7 +11,6 @@ use Rattle.armcaps_boot.specs.declared.core_state.CoreState.TheVariants.{Absent}
 use Rattle.armcaps_boot.specs.declared.halt.Halt.{Halt}
 use Rattle.armcaps_boot.specs.Causes.{capability_enabled, cause_at_check, cause_at_verification, has_length, is_system_length}
 use Rattle.armcaps_boot.specs.Changes.{hwcaps_over}
-use Rattle.armcaps_boot.specs.Choosing.{chosen}
 use Rattle.armcaps_boot.specs.Facts.{Facts, IsDecided, IsGathering, IsHalt, IsStateOf, StateFits}
 use Rattle.armcaps_boot.specs.Numbers.{numbers}
 use Rattle.armcaps_boot.specs.States.{is_early}

@@ -1,7 +1,7 @@
 -- What a step of its own leaves of a core's state and of why it is held back.
 use Rattle.std.proofs.Common.{◌≡◌, ℕ, Bool, true, false, List, ◌∷◌, Option, Some, None, Ok, refl, sym, ◌∙◌, ap, subst}
 use Rattle.std.specs.Prelude.{◌==◌, is_some}
-use Rattle.std.specs.Option.{option_map_or, option_or}
+use Rattle.std.specs.Option.{option_map_or}
 use Rattle.std.proofs.lemmas.Bool.Decides.{Decides-eqb}
 use Rattle.armcaps_boot.specs.declared.cause.Cause.{Cause}
 use Rattle.armcaps_boot.specs.declared.core_state.CoreState.{CoreState}

@@ -61,9 +61,6 @@ numbered_keeps w e k answer f keeps = by (nat_lt k (length w.board.cores)) (k ==
   by true true a b = rw (a, b) f
   by true false a b = rw (a, b) (keeps ((Decides-ltb k (length w.board.cores)).0 a) (not_from_Decides (k == w.board.boot) (Decides-eqb k w.board.boot) b))
 
-checked_past : (state : CoreState) (past : Past) → state ≡ Checked past → past_of state ≡ past
-checked_past state past e = ap past_of e
-
 -- a check of a core that was never there, or that comes back
 check_keeps : (w : World) (k : ℕ) → Facts w → w.halted ≡ None → k < length w.board.cores → (k ≡ w.board.boot → ⊥)
     → (state : CoreState) → state_at w.states k ≡ state → (cause : Option Cause) → cause_at_check w.board k ≡ cause

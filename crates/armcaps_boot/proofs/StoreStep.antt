@@ -1,14 +1,13 @@
 -- A core's store and its going in their order are answered as the steps say, and the machine after them is that of all the steps.
-use Rattle.std.proofs.Common.{◌≡◌, ℕ, Bool, true, false, cond, not, ◌&&◌, ◌||◌, List, ◌∷◌, length, Option, Some, None, Ok, refl, sym, ◌∙◌, ap}
-use Rattle.std.specs.Prelude.{bit_and, is_some}
+use Rattle.std.proofs.Common.{◌≡◌, ℕ, Bool, true, false, cond, not, ◌&&◌, ◌||◌, List, ◌∷◌, Option, Some, None, Ok, refl, sym, ◌∙◌, ap}
+use Rattle.std.specs.Prelude.{bit_and}
 use Rattle.armcaps_sanit.specs.System.{merged_words}
 use Rattle.armcaps_boot.specs.declared.cause.Cause.{Cause}
 use Rattle.armcaps_boot.specs.declared.core_state.CoreState.TheVariants.{Admitted, Offline as Gone}
 use Rattle.armcaps_board.specs.declared.event.Event.{Event}
-use Rattle.armcaps_board.specs.declared.event.Event.TheVariants.{Check, Local, Store, Offline, Finalise}
+use Rattle.armcaps_board.specs.declared.event.Event.TheVariants.{Local, Store, Offline}
 use Rattle.armcaps_boot.specs.declared.past.Past.{Past}
-use Rattle.armcaps_boot.specs.declared.past.Past.TheVariants.{Never, Early, Late}
-use Rattle.armcaps_boot.specs.declared.reply.Reply.TheVariants.{Done, Skipped}
+use Rattle.armcaps_boot.specs.declared.reply.Reply.TheVariants.{Done}
 use Rattle.armcaps_board.specs.Board.{Board, core_at}
 use Rattle.armcaps_board.specs.Order.{is_up_last, is_updated_last}
 use Rattle.armcaps_board.specs.Steps.{is_final, last_step}
@@ -18,7 +17,7 @@ use Rattle.armcaps_boot.specs.Answers.{offline_answer, store_answer}
 use Rattle.armcaps_boot.specs.Changes.{admitted_after, gone_after}
 use Rattle.armcaps_boot.specs.States.{is_late_past, past_of}
 use Rattle.armcaps_boot.specs.World.{World, state_at}
-use Rattle.armcaps_boot.proofs.Answering.{IsTurnIn, IsAnswered, IsHeldIn, after_moved, after_skipped, held_in, numbered_in, past-same, past_in, running_in, shows}
+use Rattle.armcaps_boot.proofs.Answering.{IsTurnIn, IsAnswered, after_moved, numbered_in, past-same, past_in, running_in, shows}
 use Rattle.armcaps_boot.proofs.Histories.{course, early-same, come-same, verified-same, verified_final}
 use Rattle.armcaps_boot.proofs.Holding.{past_by}
 use Rattle.armcaps_boot.proofs.OwnSteps.{own_number, store_own, offline_own, skipped, state_next, stepped_by, held_own}

@@ -1,5 +1,5 @@
 -- What a step changes in a machine.
-use Rattle.std.specs.Prelude.{ℕ, Bool, true, false, ◌&&◌, ◌||◌, if◌then◌else◌, List, Option, Some, None, Ok, Err, slice_set, bit_and}
+use Rattle.std.specs.Prelude.{ℕ, Bool, true, ◌&&◌, ◌||◌, if◌then◌else◌, List, Option, Some, Ok, Err, slice_set, bit_and}
 use Rattle.armcaps_enc.specs.declared.register.SysReg.TheVariants.{CtrEl0}
 use Rattle.armcaps_tables.specs.Core.{word_at}
 use Rattle.armcaps_sanit.specs.System.{merged_words}

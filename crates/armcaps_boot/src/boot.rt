@@ -89,6 +89,27 @@ impl Boot {
 
     /// Makes one step. It takes no memory, and looks at a fixed number of rows of the tables. A core that was
     /// admitted, went and comes back is held back at none of its steps, and leaves the system as it is.
+    ///
+    /// # Examples
+    ///
+    /// Core 0 boots the machine, core 1 comes before finalisation, and core 2 after it, without SHA1, of which
+    /// programs were told by then.
+    ///
+    /// ```
+    /// let mut cores = [CoreRegs::zero(); 3];
+    /// cores[0].set(SysReg::IdAa64Isar0El1, 0x11120);
+    /// cores[1].set(SysReg::IdAa64Isar0El1, 0x11120);
+    /// cores[2].set(SysReg::IdAa64Isar0El1, 0x11020);
+    /// let cores = Vec::from_slice(rt.alloc(), &cores)?;
+    /// let mut boot = Boot::new(rt.alloc(), cores, 0, Overrides::none())?;
+    /// for event in [Event::Check(1), Event::Local(1), Event::Store(1), Event::Finalise, Event::Check(2)] {
+    ///     assert_eq!(rt; boot.step(event), Ok(Reply::Done));
+    /// }
+    /// assert_eq!(rt; boot.state(1), Some(CoreState::Admitted { late: false }));
+    /// assert_eq!(rt; boot.step(Event::Local(2)), Ok(Reply::Parked(Cause::Hwcap(4))));
+    /// assert_eq!(rt; boot.step(Event::Store(2)), Ok(Reply::Skipped));
+    /// assert_eq!(rt; boot.step(Event::Offline(0)), Err(StepRefused::IsBootCore));
+    /// ```
     pub fn step(&mut self, event: Event) -> Result<Reply, StepRefused>
         ensures answer { result ≡ answer_of self.old event }
         ensures after { self.new ≡ world_after self.old event result }

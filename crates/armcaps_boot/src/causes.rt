@@ -101,7 +101,8 @@ fn first_conflict(
     None
 }
 
-// Whether a core is in conflict with the capability of this number, which is of boot scope or is not.
+// Whether a core is in conflict with the capability of this number, which is of boot scope or is not. The core is
+// looked at only where it would be.
 fn is_in_conflict(
     number: u16,
     of_boot_scope: bool,
@@ -115,12 +116,10 @@ fn is_in_conflict(
     ensures { result ≡ (in_scope of_boot_scope number
         && conflicts number (holds enabled.now number) (has_by board.now ctr core.now number)) }
 {
+    let is_enabled = enabled.contains(number);
     is_in_scope(of_boot_scope, number)
-        && conflict(
-            number,
-            enabled.contains(number),
-            has(number, board.boot_core(), core, &board.overrides, ctr),
-        )
+        && conflict(number, is_enabled, !is_enabled)
+        && has(number, board.boot_core(), core, &board.overrides, ctr) != is_enabled
 }
 
 fn is_in_scope(of_boot_scope: bool, number: u16) -> bool

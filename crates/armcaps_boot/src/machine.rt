@@ -6,9 +6,12 @@ ghost use Rattle.armcaps_boot.specs.Facts.{Facts};
 ghost use Rattle.armcaps_boot.specs.First.{first_states, first_world};
 ghost use Rattle.armcaps_boot.specs.Machine.{CanStep, IsStepped, world_of};
 ghost use Rattle.armcaps_tables.specs.Overriding.{AllFit};
+ghost use Rattle.armcaps_board.specs.Board.{core_at};
+ghost use Rattle.armcaps_sanit.specs.System.{merged_words};
 ghost use Rattle.armcaps_caps.specs.Rows.{capability_count};
 ghost use Rattle.armcaps_caps.specs.Set.{holds};
 ghost use Rattle.armcaps_boot.specs.Numbers.{numbers};
+ghost use Rattle.armcaps_boot.specs.States.{is_admitted};
 ghost use Rattle.armcaps_boot.specs.World.{state_at};
 
 use crate::cause::Cause;
@@ -16,7 +19,7 @@ use crate::causes::{cause_at_check, cause_at_verification, stops_machine};
 use crate::core_state::CoreState;
 use crate::gathering::{decided, first_in_flight, with_own};
 use crate::halt::Halt;
-use crate::moving::{admitted_after, past_of};
+use crate::moving::{admitted_after, is_admitted, past_of};
 use crate::refused::StepRefused;
 use crate::reply::Reply;
 use armcaps_board::{Board, Event};
@@ -85,11 +88,8 @@ impl Machine {
         ensures answer { result ≡ answers.answer_of (world_of self.old) event }
         ensures after { world_of self.new ≡ changes.world_after (world_of self.old) event result }
     {
-        if let Some(halt) = self.halted {
-            return Err(StepRefused::Halted {
-                core: halt.core,
-                cause: halt.cause,
-            });
+        if let Some(Halt { core, cause }) = self.halted {
+            return Err(StepRefused::Halted { core, cause });
         }
         match event {
             Event::Check(core) => self.check(core),
@@ -144,10 +144,9 @@ impl Machine {
         let state = self.state_of(core)?;
         match state {
             CoreState::Updated(past) => {
-                let regs = *self.board.core(core);
-                self.system.admit(&regs);
+                self.system = self.system_with(core);
                 if !self.is_final {
-                    self.common_lengths &= regs.vls();
+                    self.common_lengths &= self.board.core(core).vls();
                 }
                 self.states[core as usize] = admitted_after(self.is_final, past);
                 Ok(Reply::Done)
@@ -211,12 +210,24 @@ impl Machine {
         Ok(self.states[core as usize])
     }
 
+    // Whether a core was ever admitted. Such a core meets no cause when it comes back, and the system has all that it
+    // brings: nothing is looked up again.
+    fn was_admitted(&self, core: u32) -> bool
+        requires { core < length self.now.states.items }
+        ensures { result ≡ is_admitted (state_at self.now.states.items core) }
+    {
+        is_admitted(self.states[core as usize])
+    }
+
     fn cause_at_check(&self, core: u32) -> Option<Cause>
         requires facts { Facts (world_of self.now) }
         requires within { core < length self.now.board.cores }
         ensures cause { result ≡ causes.cause_at_check self.now.board core }
         ensures numbered { IfSome result causes.IsNumbered }
     {
+        if self.was_admitted(core) {
+            return None;
+        }
         let ctr = self.system.word(SysReg::CtrEl0);
         cause_at_check(&self.enabled, &self.board, self.board.core(core), ctr)
     }
@@ -227,7 +238,7 @@ impl Machine {
         ensures cause { result ≡ answers.cause_at_local (world_of self.now) core }
         ensures numbered { IfSome result causes.IsNumbered }
     {
-        if !self.is_final {
+        if !self.is_final || self.was_admitted(core) {
             return None;
         }
         let ctr = self.system.word(SysReg::CtrEl0);
@@ -248,11 +259,25 @@ impl Machine {
         ensures { numbers capability_count (holds result)
             ≡ (if self.now.is_final then (world_of self.now).noted else changes.noted_with (world_of self.now) core) }
     {
-        if self.is_final {
+        if self.is_final || self.was_admitted(core) {
             return self.noted;
         }
         let ctr = self.system.word(SysReg::CtrEl0);
         with_own(self.noted, false, &self.board, self.board.core(core), ctr)
+    }
+
+    // The system registers once a core is admitted.
+    fn system_with(&self, core: u32) -> System
+        requires facts { Facts (world_of self.now) }
+        requires within { core < length self.now.board.cores }
+        ensures { result ≡ merged_words self.now.system (core_at self.now.board.cores core) }
+    {
+        if self.was_admitted(core) {
+            return self.system;
+        }
+        let mut system = self.system;
+        system.admit(self.board.core(core));
+        system
     }
 
     // Parks a core, or lets it stop the machine.

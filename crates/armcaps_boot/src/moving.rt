@@ -40,3 +40,13 @@ pub(crate) fn is_in_flight(state: CoreState) -> bool
         _ => false,
     }
 }
+
+/// Whether a core in this state was ever admitted.
+pub(crate) fn is_admitted(state: CoreState) -> bool
+    ensures { result ≡ states.is_admitted state }
+{
+    match past_of(state) {
+        Past::Never => false,
+        Past::Early | Past::Late => true,
+    }
+}

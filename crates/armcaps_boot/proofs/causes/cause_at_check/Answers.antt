@@ -1,6 +1,4 @@
 use Rattle.std.proofs.Common.{◌∙◌, sym}
-use Rattle.armcaps_board.specs.Board.{boot_core}
-use Rattle.armcaps_boot.specs.Causes.{cause_at_check}
 use Rattle.armcaps_boot.specs.Scopes.{held_at_check}
 use Rattle.armcaps_boot.proofs.causes.cause_at_check.Goals as goal
 

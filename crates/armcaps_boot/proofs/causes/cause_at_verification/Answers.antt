@@ -1,5 +1,4 @@
 use Rattle.std.proofs.Common.{◌∙◌, sym}
-use Rattle.armcaps_boot.specs.Causes.{cause_at_verification, first_conflict}
 use Rattle.armcaps_boot.specs.Scopes.{lack_of}
 use Rattle.armcaps_logic.proofs.Options.{none_from_never}
 use Rattle.armcaps_boot.proofs.causes.cause_at_verification.Goals as goal

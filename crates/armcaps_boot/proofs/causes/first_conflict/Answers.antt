@@ -1,6 +1,4 @@
 use Rattle.std.proofs.Common.{◌∙◌, sym, arith}
-use Rattle.armcaps_boot.specs.Causes.{first_conflict}
-use Rattle.armcaps_boot.specs.Numbers.{first_of}
 use Rattle.armcaps_boot.specs.Scopes.{conflict_with}
 use Rattle.armcaps_boot.proofs.FirstNumbers.{first_of-first, first_of-none, fails_more}
 use Rattle.armcaps_boot.proofs.causes.first_conflict.Goals as goal

@@ -1,7 +1,6 @@
 use Rattle.std.proofs.Common.{◌≡◌, ℕ, ◌<◌, ◌&&◌, false}
 use Rattle.armcaps_caps.specs.Capabilities.{conflicts}
 use Rattle.armcaps_caps.specs.Set.{holds}
-use Rattle.armcaps_boot.specs.Causes.{first_conflict}
 use Rattle.armcaps_boot.specs.Scopes.{has_by, in_scope}
 use Rattle.armcaps_boot.proofs.causes.first_conflict.Given as goal
 

@@ -1,6 +1,5 @@
 use Rattle.std.proofs.Common.{◌∙◌, ap, sym, arith, not, ◌&&◌}
 use Rattle.armcaps_boot.specs.Causes.{has_length}
-use Rattle.armcaps_boot.specs.Numbers.{first_of}
 use Rattle.armcaps_boot.proofs.FirstNumbers.{first_of-first, first_of-none}
 use Rattle.armcaps_boot.proofs.causes.first_lacking_length.Goals as goal
 

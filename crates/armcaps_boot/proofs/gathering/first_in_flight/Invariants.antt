@@ -1,5 +1,4 @@
 use Rattle.std.proofs.Common.{◌≡◌, ℕ, ◌<◌, false}
-use Rattle.armcaps_boot.specs.Answers.{first_in_flight}
 use Rattle.armcaps_boot.specs.States.{is_in_flight}
 use Rattle.armcaps_boot.specs.World.{state_at}
 use Rattle.armcaps_boot.proofs.gathering.first_in_flight.Given as goal

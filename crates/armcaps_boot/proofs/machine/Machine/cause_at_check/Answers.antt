@@ -1,7 +1,6 @@
 use Rattle.std.proofs.Common.{◌∙◌, ap, refl}
 use Rattle.armcaps_tables.specs.Core.{Core}
 use Rattle.armcaps_board.specs.Board.{core_at}
-use Rattle.armcaps_boot.specs.Causes.{cause_at_check}
 use Rattle.armcaps_boot.specs.Machine.{world_of}
 use Rattle.armcaps_boot.specs.Scopes.{held_at_check}
 use Rattle.armcaps_boot.proofs.Asked.{held-at_check}

@@ -1,7 +1,6 @@
 use Rattle.std.proofs.Common.{◌≡◌, ◌∙◌, ap, sym, refl, cond, None, true, Bool}
 use Rattle.armcaps_tables.specs.Core.{Core}
 use Rattle.armcaps_board.specs.Board.{core_at}
-use Rattle.armcaps_boot.specs.Answers.{cause_at_local}
 use Rattle.armcaps_boot.specs.Causes.{cause_at_verification}
 use Rattle.armcaps_boot.specs.Machine.{world_of}
 use Rattle.armcaps_boot.specs.Scopes.{lack_of}

@@ -1,6 +1,5 @@
 use Rattle.std.proofs.Common.{◌∙◌, ap, sym, refl, ℕ, Bool, true, false, Option, None}
-use Rattle.armcaps_boot.specs.Answers.{finalise_answer, first_in_flight}
-use Rattle.armcaps_boot.specs.Changes.{final_world}
+use Rattle.armcaps_boot.specs.Answers.{finalise_answer}
 use Rattle.armcaps_boot.specs.Machine.{world_of}
 use Rattle.armcaps_logic.proofs.Options.{none_from_never}
 use Rattle.armcaps_boot.proofs.FinalWorld.{final_world-same, lengths_by}

@@ -1,6 +1,5 @@
 use Rattle.std.proofs.Common.{ap}
-use Rattle.armcaps_board.specs.Board.{Board, boot_core}
-use Rattle.armcaps_boot.specs.First.{first_world}
+use Rattle.armcaps_board.specs.Board.{Board}
 use Rattle.armcaps_boot.proofs.Beginning.{first_world-same, own_alone}
 use Rattle.armcaps_boot.proofs.machine.Machine.first.Goals as goal
 
