@@ -1,6 +1,7 @@
 -- What the contracts of this crate cite.
 pub mod Replaced
 pub mod Features
+pub mod Choices
 pub mod Index
 pub mod Kept
 pub mod Accepting

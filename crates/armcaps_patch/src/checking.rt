@@ -10,11 +10,12 @@ ghost use Rattle.armcaps_patch.specs.Features.{features_of};
 ghost use Rattle.armcaps_patch.specs.Kept.{IsKept, StandsFor, kept_of};
 
 use crate::accepting::accept;
+use crate::choosing::{choose, none_yet};
 use crate::kept::Kept;
 use crate::planning::Plan;
 use crate::refused::PatchRefused;
 use crate::selecting::enabled_on;
-use armcaps_alt::{Entry, Layout, Names, PatchKind, selected};
+use armcaps_alt::{Entry, Layout, Names, PatchKind};
 use armcaps_boot::Boot;
 use std::alloc::{AllocError, Global};
 
@@ -78,10 +79,12 @@ fn keep_all(
         ≡ Some (record { entry = entry; kind = kind }) }
 {
     let enabled = enabled_on(boot);
+    let mut choices = none_yet(alloc)?;
     let mut kept = Vec::with_capacity(alloc, layout.count as usize)?;
     for index in 0..layout.count {
         let entry = entry_at(image, layout, index);
-        match keep(selected(&entry, names, &enabled), &entry, image, names) {
+        let is_selected = choose(&mut choices, &entry, names, &enabled);
+        match keep(is_selected, &entry, image, names) {
             Ok(found) => add(&mut kept, found)?,
             Err(kind) => return Err(PatchRefused::Entry { entry: index, kind }),
         }

@@ -4,6 +4,8 @@
 
 mod accepting;
 mod checking;
+mod choice;
+mod choosing;
 mod kept;
 mod nearby;
 mod patched;
