@@ -134,10 +134,6 @@ first_same one other size place same first = record {
   passes = λ within. sym (same place within) ∙ first.passes within;
 }
 
--- a place of the word that has this number
-pub in_word : (number k : ℕ) → 4 * number ≤ k → k < 4 * (number + 1) → (index : ℕ) × ((index < 4) × (k ≡ 4 * number + index))
-in_word number k low high = (k - 4 * number, (omega arith, omega arith))
-
 -- the first place that passes one of two tests is the lesser of theirs
 either_passes : (one other test : Bool) → test ≡ (one || other) → one ≡ true → test ≡ true
 either_passes true other test is passes = is

@@ -103,15 +103,6 @@ judged_before features image patched entries old first entry marks place judged 
       (covers_among entry p accepted.aligned accepted.words));
 }
 
--- an entry that is not selected changes nothing
-pub judged_without : (features : Features) (image patched : List ℕ) (entries : List Entry) (marks : List ℕ) (first : ℕ)
-    → AreJudged features image patched entries marks first
-    → AreJudged features image patched entries marks (min first (length image))
-judged_without features image patched entries marks first judged =
-    let most = judged.first.most in
-    let same : min first (length image) ≡ first = omega arith in
-    subst (λ (n : ℕ). AreJudged features image patched entries marks n) (sym same) judged
-
 -- no entry is judged yet
 pub judged_nothing : (features : Features) (image patched marks : List ℕ)
     → ((number : ℕ) → is_marked marks number ≡ false)

@@ -1,5 +1,5 @@
 -- What a moved word becomes, told by what it decodes to.
-use Rattle.std.proofs.Common.{◌≡◌, ◌⊎◌, ℕ, ◌-◌, ◌^◌, ◌<◌, ◌≤◌, ◌+ℤ◌, IsTrue, bit_and, w64, of_z, to_z, ℤ, pos, true, false, None, Some, Ok, Err, refl, sym, ap, subst, ◌∙◌, inl, inr}
+use Rattle.std.proofs.Common.{◌≡◌, ◌⊎◌, ℕ, ◌-◌, ◌^◌, ◌<◌, ◌≤◌, ◌+ℤ◌, IsTrue, bit_and, w64, of_z, to_z, ℤ, pos, true, false, Some, Ok, Err, refl, sym, ap, subst, ◌∙◌, inl, inr}
 use Rattle.std.specs.Option.{option_map, option_map_or}
 use Rattle.std.proofs.lemmas.Bool.{cases_Bool}
 use Rattle.std.proofs.lemmas.Int.{to_z-of_z}
@@ -15,19 +15,18 @@ use Rattle.armcaps_insn.specs.Encodings.{class_of}
 use Rattle.armcaps_insn.specs.Immediates.{immediate, immediate_of, is_in_range, offset_in, rest_in, with_offset}
 use Rattle.armcaps_insn.specs.Moved.{IsMove, IsMoved, corrected, corrected_by, is_inside, is_kept, offset_to, relocated, takes_no_address}
 use Rattle.armcaps_insn.proofs.Moves.{moves, one_moved}
-use Rattle.armcaps_pool.specs.Rightful.{Keeps, address_of, reaches, units_of, word_with}
+use Rattle.armcaps_pool.specs.Rightful.{Keeps, address_of, units_of, word_with}
 
--- a word that moves, and whose target is outside: it can reach it, and has it
+-- a word that moves, and whose target is outside, has it
 moved_outside : (class : Class) (mask shift width low_width scale word : ℕ) (target : ℤ) (to low high new : ℕ)
     → is_inside class target low high ≡ false
     → relocated (immediate mask shift width low_width scale) class word target to low high ≡ Ok new
-    → (is_in_range (immediate mask shift width low_width scale) (offset_to class to target) ≡ true)
-    × (relocated (immediate mask shift width low_width scale) class word target to low high
+    → relocated (immediate mask shift width low_width scale) class word target to low high
     ≡ Ok (with_offset (immediate mask shift width low_width scale) (rest_in (immediate mask shift width low_width scale) word)
-    (offset_to class to target)))
+    (offset_to class to target))
 moved_outside class mask shift width low_width scale word target to low high new outside made =
     elim (cases_Bool (is_in_range (immediate mask shift width low_width scale) (offset_to class to target))) [
-      | inl near ↦ (near, rw (outside, near) refl)
+      | inl near ↦ rw (outside, near) refl
       | inr far ↦
           (let wrong : Err (refused.Range (offset_to class to target)) ≡ Ok new = rw (outside, far) at made in
           cc)
@@ -51,17 +50,6 @@ decoded_class : (word : ℕ) → (decoded word).class ≡ class_of word
 decoded_class word = insn_class (class_of word) word
 
 -- what stays
-none_by : (class : Class) (word from to low high new : ℕ)
-    → address_of (insn_of class (immediate_of class) word) from ≡ None
-    → corrected_by (immediate_of class) class word from to low high ≡ Ok new
-    → corrected_by (immediate_of class) class word from to low high ≡ Ok word
-none_by Jump26 word from to low high new none made = cc
-none_by Jump19 word from to low high new none made = cc
-none_by Jump14 word from to low high new none made = cc
-none_by Page word from to low high new none made = cc
-none_by Literal word from to low high new none made = cc
-none_by Other word from to low high new none made = refl
-
 inside_by : (class : Class) (word from to low high : ℕ) (target : ℤ)
     → address_of (insn_of class (immediate_of class) word) from ≡ Some target
     → is_inside (insn_of class (immediate_of class) word).class target low high ≡ true
@@ -82,38 +70,37 @@ inside_by Page word from to low high target takes inside = cc
 inside_by Literal word from to low high target takes inside = cc
 inside_by Other word from to low high target takes inside = cc
 
--- what moves: the word can reach its target, and has it
+-- what moves: the word has its target
 outside_by : (class : Class) (word from to low high new : ℕ) (target : ℤ)
     → address_of (insn_of class (immediate_of class) word) from ≡ Some target
     → is_inside (insn_of class (immediate_of class) word).class target low high ≡ false
     → corrected_by (immediate_of class) class word from to low high ≡ Ok new
-    → (reaches (insn_of class (immediate_of class) word) to target ≡ true)
-    × (corrected_by (immediate_of class) class word from to low high
-    ≡ Ok (word_with (insn_of class (immediate_of class) word) to target))
+    → corrected_by (immediate_of class) class word from to low high
+    ≡ Ok (word_with (insn_of class (immediate_of class) word) to target)
 outside_by Jump26 word from to low high new target takes outside made =
     let same : pos from +ℤ offset_in (immediate 0x03ffffff 0 26 0 2) word ≡ target = cc in
     let there : relocated (immediate 0x03ffffff 0 26 0 2) Jump26 word target to low high ≡ Ok new =
     ap (λ t. relocated (immediate 0x03ffffff 0 26 0 2) Jump26 word t to low high) (sym same) ∙ made in
-    let parts = moved_outside Jump26 0x03ffffff 0 26 0 2 word target to low high new outside there in
-    (parts.0, ap (λ t. relocated (immediate 0x03ffffff 0 26 0 2) Jump26 word t to low high) same ∙ parts.1)
+    ap (λ t. relocated (immediate 0x03ffffff 0 26 0 2) Jump26 word t to low high) same
+    ∙ moved_outside Jump26 0x03ffffff 0 26 0 2 word target to low high new outside there
 outside_by Jump19 word from to low high new target takes outside made =
     let same : pos from +ℤ offset_in (immediate 0x00ffffe0 5 19 0 2) word ≡ target = cc in
     let there : relocated (immediate 0x00ffffe0 5 19 0 2) Jump19 word target to low high ≡ Ok new =
     ap (λ t. relocated (immediate 0x00ffffe0 5 19 0 2) Jump19 word t to low high) (sym same) ∙ made in
-    let parts = moved_outside Jump19 0x00ffffe0 5 19 0 2 word target to low high new outside there in
-    (parts.0, ap (λ t. relocated (immediate 0x00ffffe0 5 19 0 2) Jump19 word t to low high) same ∙ parts.1)
+    ap (λ t. relocated (immediate 0x00ffffe0 5 19 0 2) Jump19 word t to low high) same
+    ∙ moved_outside Jump19 0x00ffffe0 5 19 0 2 word target to low high new outside there
 outside_by Jump14 word from to low high new target takes outside made =
     let same : pos from +ℤ offset_in (immediate 0x0007ffe0 5 14 0 2) word ≡ target = cc in
     let there : relocated (immediate 0x0007ffe0 5 14 0 2) Jump14 word target to low high ≡ Ok new =
     ap (λ t. relocated (immediate 0x0007ffe0 5 14 0 2) Jump14 word t to low high) (sym same) ∙ made in
-    let parts = moved_outside Jump14 0x0007ffe0 5 14 0 2 word target to low high new outside there in
-    (parts.0, ap (λ t. relocated (immediate 0x0007ffe0 5 14 0 2) Jump14 word t to low high) same ∙ parts.1)
+    ap (λ t. relocated (immediate 0x0007ffe0 5 14 0 2) Jump14 word t to low high) same
+    ∙ moved_outside Jump14 0x0007ffe0 5 14 0 2 word target to low high new outside there
 outside_by Page word from to low high new target takes outside made =
     let same : pos (base_of Page from) +ℤ offset_in (immediate 0x60ffffe0 5 19 2 12) word ≡ target = cc in
     let there : relocated (immediate 0x60ffffe0 5 19 2 12) Page word target to low high ≡ Ok new =
     ap (λ t. relocated (immediate 0x60ffffe0 5 19 2 12) Page word t to low high) (sym same) ∙ made in
-    let parts = moved_outside Page 0x60ffffe0 5 19 2 12 word target to low high new outside there in
-    (parts.0, ap (λ t. relocated (immediate 0x60ffffe0 5 19 2 12) Page word t to low high) same ∙ parts.1)
+    ap (λ t. relocated (immediate 0x60ffffe0 5 19 2 12) Page word t to low high) same
+    ∙ moved_outside Page 0x60ffffe0 5 19 2 12 word target to low high new outside there
 outside_by Literal word from to low high new target takes outside made = cc
 outside_by Other word from to low high new target takes outside made = cc
 
@@ -122,30 +109,18 @@ target_as_address : (word place : ℕ) → target_at place word ≡ address_of (
 target_as_address word place =
     ap (λ class. option_map (λ offset. pos (base_of class place) +ℤ offset) (decoded word).offset) (sym (decoded_class word))
 
--- a word that takes no address stays
-pub stays_without : (word from to low high new : ℕ) → address_of (decoded word) from ≡ None
-    → corrected word from to low high ≡ Ok new → corrected word from to low high ≡ Ok word
-stays_without word from to low high new none made = none_by (class_of word) word from to low high new none made
-
 -- a jump within its sequence stays
-pub stays_inside : (word from to low high : ℕ) (target : ℤ) → address_of (decoded word) from ≡ Some target
+stays_inside : (word from to low high : ℕ) (target : ℤ) → address_of (decoded word) from ≡ Some target
     → is_inside (decoded word).class target low high ≡ true → corrected word from to low high ≡ Ok word
 stays_inside word from to low high target takes inside =
     inside_by (class_of word) word from to low high target takes inside
 
--- any other reaches its target
-pub reaches_outside : (word from to low high new : ℕ) (target : ℤ) → address_of (decoded word) from ≡ Some target
-    → is_inside (decoded word).class target low high ≡ false → corrected word from to low high ≡ Ok new
-    → reaches (decoded word) to target ≡ true
-reaches_outside word from to low high new target takes outside made =
-    (outside_by (class_of word) word from to low high new target takes outside made).0
-
--- and is the word that is made
-pub made_outside : (word from to low high new : ℕ) (target : ℤ) → address_of (decoded word) from ≡ Some target
+-- any other word is the one that is made
+made_outside : (word from to low high new : ℕ) (target : ℤ) → address_of (decoded word) from ≡ Some target
     → is_inside (decoded word).class target low high ≡ false → corrected word from to low high ≡ Ok new
     → corrected word from to low high ≡ Ok (word_with (decoded word) to target)
 made_outside word from to low high new target takes outside made =
-    (outside_by (class_of word) word from to low high new target takes outside made).1
+    outside_by (class_of word) word from to low high new target takes outside made
 
 -- a word that doesn't stay
 not_kept : (word from low high : ℕ) (target : ℤ) → address_of (decoded word) from ≡ Some target
@@ -156,7 +131,7 @@ not_kept word from low high target takes outside =
     ∙ ap (λ class. is_inside class target low high) (sym (decoded_class word)) ∙ outside
 
 -- and a word found that has its class, its other bits and its target is the one that is made
-pub found_outside : (word found from to low high new : ℕ) (target : ℤ) → IsMove from to low high → word < 2 ^ 32
+found_outside : (word found from to low high new : ℕ) (target : ℤ) → IsMove from to low high → word < 2 ^ 32
     → found < 2 ^ 32 → address_of (decoded word) from ≡ Some target
     → is_inside (decoded word).class target low high ≡ false → corrected word from to low high ≡ Ok new
     → Keeps (decoded word) (decoded found) to target → corrected word from to low high ≡ Ok found

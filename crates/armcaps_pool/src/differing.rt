@@ -69,8 +69,8 @@ pub(crate) fn first_changed(marks: &[u64], patched: &[u8], image: &[u8]) -> usiz
     first_in_tail(patched, image)
 }
 
-// The first byte of no marked word in which an image differs from its original, from the word `begin` on; where there is
-// none before the word `end`, its place.
+// The first byte of no marked word in which an image differs from its original, from the word `begin` on; where there
+// is none before the word `end`, that word's place.
 fn first_in_words(marks: &[u64], patched: &[u8], image: &[u8], begin: usize, end: usize) -> usize
     requires images { AreImages image.now patched.now }
     requires order { begin ≤ end }
