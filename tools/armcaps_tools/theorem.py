@@ -41,20 +41,20 @@ TABLES = {
 HEAD = """<!-- Written by tools/definitions from the contracts and definitions of the crates. Do not edit. -->
 # The theorem
 
-A run of `armcaps` ends. Where its status is 0, no step stops a machine that the input describes, and what was written
+A run of `armcaps` ends. If its status is 0, no step stops a machine that the input describes, and what was written
 is exactly what the command makes of the input, and nothing else: registers, capabilities, hwcaps,
-vector lengths and patched words as they are defined below, for every order in which the cores came up. Each core that
-was admitted has every system feature that is enabled, and each workaround that such a core needs is enabled. Any
-other status says why nothing was written, or that a stream failed or there was no memory, and the error stream got
-the line that says so, or a first part of it where it failed itself. The checker has proved this of
-`armcaps_top::run` ([its contract](../crates/armcaps_top/src/program.rt)), which cites the record `Promises`. Bytes are spoken of where the source tells its bytes and
-the sink what it holds, as those in memory do; README.md says what is left of it over real streams.
+vector lengths and patched words as they are defined below, for every order in which the cores come up. Each admitted
+core has every system feature that is enabled, and each workaround that such a core needs is enabled. Any other status
+says why nothing was written, or that a stream failed, or that there was no memory. Then the error stream got the line
+that says so, or a first part of it if that stream failed itself. The checker has proved this of
+`armcaps_top::run` ([its contract](../crates/armcaps_top/src/program.rt)), which cites the record `Promises`. It speaks of bytes if the source tells its bytes and
+the sink what it holds, as those in memory do. [README](../README.md#tested-and-trusted) says what is proved over real streams.
 
-This page is all that has to be believed of that: `Promises`, and each definition that it rests on, as it stands in
+This page has all that you have to believe of that: `Promises`, and each definition that it rests on, as it stands in
 crates/NAME/specs, with the words above it. A name is explained after its first use, in the order of the first use
 within a subject. It is {definitions} definitions in {lines} lines without comments and blank lines; {tabled} more are
-lines of tables, in {rows} lines, which are read beside the manual and Linux in docs/FIELDS.md, docs/CAPABILITIES.md
-and docs/HWCAPS.md. Functions compute; relations and records, whose names begin with a capital letter, say what holds.
+lines of tables, in {rows} lines. Read those beside the manual and Linux as [fields](FIELDS.md), [capabilities](CAPABILITIES.md)
+and [hwcaps](HWCAPS.md). Functions compute; relations and records, whose names begin with a capital letter, say what holds.
 `abbrev` and `unfoldable` only tell the checker when to look inside, `pub` lets other files name it; words that are
 not here are of the toolchain's standard library. [One statement](ARCHITECTURE.md#one-statement-from-the-top-to-the-bottom)
 is followed from the top to the bottom in ARCHITECTURE.md.
