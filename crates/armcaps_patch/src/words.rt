@@ -77,15 +77,24 @@ pub(crate) fn takes_addresses(image: &[u8], begin: usize, words: usize) -> bool
     any
 }
 
-// Whether a word takes an address from the place where it stands, as its highest byte tells: ADR, ADRP; B.cond, BC.cond
-// and the miscellaneous group; B, BL, CBZ, CBNZ, TBZ, TBNZ; literal loads (Arm ARM DDI 0487, "A64 instruction set
-// encoding").
+// Whether a word takes an address from the place where it stands, as its highest byte tells.
 fn takes_address(word: u32) -> bool
     ensures { result ≡ false → class_of word ≡ Other }
 {
-    let is_page = word & 0x1f00_0000 == 0x1000_0000;
-    let is_condition = word & 0xfe00_0000 == 0x5400_0000;
-    let is_branch = word & 0x5c00_0000 == 0x1400_0000;
-    let is_load = word & 0x3b00_0000 == 0x1800_0000;
-    is_page | is_condition | is_branch | is_load
+    let by_byte = TAKES_ADDRESS;
+    by_byte[(word / 0x100_0000) as usize] != 0
 }
+
+// By a word's highest byte, 1 where the word takes an address from the place where it stands: ADR, ADRP; B.cond,
+// BC.cond and the miscellaneous group; B, BL, CBZ, CBNZ, TBZ, TBNZ; literal loads (Arm ARM DDI 0487, "A64
+// instruction set encoding").
+const TAKES_ADDRESS: [u8; 256] = [
+    0, 0, 0, 0, 0, 0, 0, 0, 0, 0, 0, 0, 0, 0, 0, 0, 1, 0, 0, 0, 1, 1, 1, 1, 1, 0, 0, 0, 1, 0, 0, 0,
+    0, 0, 0, 0, 0, 0, 0, 0, 0, 0, 0, 0, 0, 0, 0, 0, 1, 0, 0, 0, 1, 1, 1, 1, 0, 0, 0, 0, 0, 0, 0, 0,
+    0, 0, 0, 0, 0, 0, 0, 0, 0, 0, 0, 0, 0, 0, 0, 0, 1, 0, 0, 0, 1, 1, 0, 0, 1, 0, 0, 0, 1, 0, 0, 0,
+    0, 0, 0, 0, 0, 0, 0, 0, 0, 0, 0, 0, 0, 0, 0, 0, 1, 0, 0, 0, 0, 0, 0, 0, 0, 0, 0, 0, 0, 0, 0, 0,
+    0, 0, 0, 0, 0, 0, 0, 0, 0, 0, 0, 0, 0, 0, 0, 0, 1, 0, 0, 0, 1, 1, 1, 1, 1, 0, 0, 0, 1, 0, 0, 0,
+    0, 0, 0, 0, 0, 0, 0, 0, 0, 0, 0, 0, 0, 0, 0, 0, 1, 0, 0, 0, 1, 1, 1, 1, 0, 0, 0, 0, 0, 0, 0, 0,
+    0, 0, 0, 0, 0, 0, 0, 0, 0, 0, 0, 0, 0, 0, 0, 0, 1, 0, 0, 0, 0, 0, 0, 0, 1, 0, 0, 0, 1, 0, 0, 0,
+    0, 0, 0, 0, 0, 0, 0, 0, 0, 0, 0, 0, 0, 0, 0, 0, 1, 0, 0, 0, 0, 0, 0, 0, 0, 0, 0, 0, 0, 0, 0, 0,
+];

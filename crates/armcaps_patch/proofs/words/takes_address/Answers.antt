@@ -1,10 +1,9 @@
-use Rattle.std.proofs.lemmas.Bool.{or_parts}
-use Rattle.armcaps_patch.proofs.Addresses.{of_no_group}
+-- The table is that of the words' classes.
+use Rattle.std.proofs.Common.{◌/◌, ◌^◌, ◌<◌, arith}
+use Rattle.armcaps_insn.specs.Encodings.{class_of, encodings}
+use Rattle.armcaps_patch.proofs.Addresses.{of_byte}
 use Rattle.armcaps_patch.proofs.words.takes_address.Goals as goal
 
 pub returns : goal.returns
-returns c = λ none.
-    let rest = or_parts _ _ none in
-    let two = or_parts _ _ rest.0 in
-    let one = or_parts _ _ two.0 in
-    of_no_group c.args.word one.0 one.1 two.1 rest.1
+unfolding class_of encodings
+returns c = of_byte c.args.word (omega arith)
