@@ -81,8 +81,7 @@ pub(crate) fn takes_addresses(image: &[u8], begin: usize, words: usize) -> bool
 fn takes_address(word: u32) -> bool
     ensures { result ≡ false → class_of word ≡ Other }
 {
-    let by_byte = TAKES_ADDRESS;
-    by_byte[(word / 0x100_0000) as usize] != 0
+    TAKES_ADDRESS[(word / 0x100_0000) as usize] != 0
 }
 
 // By a word's highest byte, 1 where the word takes an address from the place where it stands: ADR, ADRP; B.cond,
