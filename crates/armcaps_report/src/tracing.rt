@@ -1,6 +1,6 @@
 //! The trace of a machine's steps: what came of each, and the system registers that it changed.
 
-ghost use Rattle.std.specs.Prelude.{◌≡◌, ◌<◌, ◌+◌, ◌++◌, List, Ok, None, IsOk, IfOk, OnOk, length, reverse, slice_index_or, string_bytes};
+ghost use Rattle.std.specs.Prelude.{◌≡◌, ◌<◌, ◌+◌, ◌++◌, List, Ok, None, IsOk, IfOk, OnOk, codes, length, reverse, slice_index_or, string_bytes};
 ghost use Rattle.armcaps_tables.specs.Core.{Core};
 ghost use Rattle.armcaps_tables.specs.Overriding.{FieldOverrides};
 ghost use Rattle.armcaps_sanit.specs.System.{IsSystemOf};
@@ -12,40 +12,42 @@ ghost use Rattle.armcaps_report.specs.Trace.{changed_line, changed_lines, reply_
 
 use crate::causes::push_cause;
 use crate::registers::push_register;
+use crate::text::{push_after, push_between};
 use armcaps_boot::laws::sets_are_those_of_the_steps;
 use armcaps_boot::{Boot, Event, Halt, Reply, make_step};
 use armcaps_enc::SysReg;
 use armcaps_sanit::System;
 use std::alloc::AllocError;
-use std::fmt::Write;
 
 // Adds a step.
 fn push_event(text: &mut String, event: Event) -> Result<(), AllocError>
     ensures { OnOk result (string_bytes text.new ≡ string_bytes text.old ++ step_text event) }
 {
     match event {
-        Event::Check(core) => write!(text, "check {core}"),
-        Event::Local(core) => write!(text, "local {core}"),
-        Event::Store(core) => write!(text, "store {core}"),
-        Event::Offline(core) => write!(text, "offline {core}"),
+        Event::Check(core) => push_after(text, "check ", u64::from(core)),
+        Event::Local(core) => push_after(text, "local ", u64::from(core)),
+        Event::Store(core) => push_after(text, "store ", u64::from(core)),
+        Event::Offline(core) => push_after(text, "offline ", u64::from(core)),
         Event::Finalise => text.push_str("finalise"),
     }
 }
 
-// Adds a reply.
+// Adds a reply at the end of a line.
 fn push_reply(text: &mut String, reply: Reply) -> Result<(), AllocError>
-    ensures { OnOk result (string_bytes text.new ≡ string_bytes text.old ++ reply_text reply) }
+    ensures { OnOk result (string_bytes text.new ≡ string_bytes text.old ++ codes " " ++ reply_text reply ++ codes "\n") }
 {
     match reply {
-        Reply::Done => text.push_str("done"),
-        Reply::Skipped => text.push_str("skipped"),
+        Reply::Done => text.push_str(" done\n"),
+        Reply::Skipped => text.push_str(" skipped\n"),
         Reply::Parked(cause) => {
-            text.push_str("parked ")?;
-            push_cause(text, cause)
+            text.push_str(" parked ")?;
+            push_cause(text, cause)?;
+            text.push_str("\n")
         }
         Reply::Panicked(cause) => {
-            text.push_str("panicked ")?;
-            push_cause(text, cause)
+            text.push_str(" panicked ")?;
+            push_cause(text, cause)?;
+            text.push_str("\n")
         }
     }
 }
@@ -54,11 +56,9 @@ fn push_reply(text: &mut String, reply: Reply) -> Result<(), AllocError>
 fn push_step(text: &mut String, number: usize, event: Event, reply: Reply) -> Result<(), AllocError>
     ensures { OnOk result (string_bytes text.new ≡ string_bytes text.old ++ step_line number event reply) }
 {
-    write!(text, "step {number} ")?;
+    push_between(text, "step ", number as u64, " ")?;
     push_event(text, event)?;
-    text.push_str(" ")?;
-    push_reply(text, reply)?;
-    text.push_str("\n")
+    push_reply(text, reply)
 }
 
 // Adds a register's line where its word changes.
