@@ -22,7 +22,7 @@ pub use generator::generate;
 pub use kind::{TextKind, TextRefused};
 pub use machine::Machine;
 pub use number::number_up_to;
-pub use texts::{TextsRefused, TextsUnread, read_texts};
+pub use texts::{TextsRefused, TextsUnread, bytes_from, read_texts};
 
 #[cfg(test)]
 mod tests;

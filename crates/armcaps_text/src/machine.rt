@@ -82,6 +82,20 @@ impl Machine {
     /// long. A text is refused at the first line where some kind holds, with the lowest kind there. Memory may run
     /// out on any text. What is read is sound: the boot core is one of the cores, the steps are in order and
     /// complete, no override is of a row of CTR_EL0, and the table of alternatives lies in the image.
+    ///
+    /// # Errors
+    ///
+    /// `TextRefused::Line` where the text is refused, and `TextRefused::Memory` where there is no memory.
+    ///
+    /// # Examples
+    ///
+    /// ```
+    /// let text = "armcaps 1\ncore 0\nid_aa64isar0_el1 0x11120\nboot 0\nfinalise\nend\n";
+    /// let (machine, place) = Machine::read(rt.alloc(), text.as_bytes())?;
+    /// assert_eq!(rt; place, text.len());
+    /// assert_eq!(rt; machine.board.cores[0].get(SysReg::IdAa64Isar0El1), 0x11120);
+    /// assert_eq!(rt; machine.image, 0);
+    /// ```
     #[tactic(auto, unfolding(crate::specs::Document::outcome))]
     pub fn read(alloc: Global, bytes: &[u8]) -> Result<(Machine, usize), TextRefused>
         ensures reads { IfOk result (λ read. outcome bytes.now ≡ Reads (reading_of read.0) read.1) }

@@ -1,5 +1,6 @@
 // Texts and what becomes of them.
 mod refusing;
+mod several;
 
 use crate::{Format, Machine, TextKind, TextRefused, generate};
 use armcaps_alt::{CallbackKind, Conduit, Layout, Named};

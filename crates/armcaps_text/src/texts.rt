@@ -11,7 +11,7 @@ use crate::machine::Machine;
 use std::alloc::Global;
 
 /// Why machine texts that stand one after the other are refused. Texts are counted from 0.
-#[derive(Clone, Copy)]
+#[derive(Clone, Copy, Debug, PartialEq, Eq)]
 pub enum TextsRefused {
     /// The first text that is refused or has an image is this one, and is refused at this line, counted from 1, for
     /// this kind.
@@ -60,8 +60,8 @@ fn read_text(alloc: Global, number: u32, bytes: &[u8]) -> Result<(Machine, usize
     }
 }
 
-// The bytes from a place on.
-fn bytes_from(bytes: &[u8], place: usize) -> &[u8]
+/// The bytes from a place on, as those that follow a machine text.
+pub fn bytes_from(bytes: &[u8], place: usize) -> &[u8]
     requires { place ≤ length bytes.now }
     ensures { result.now ≡ drop place bytes.now }
 {

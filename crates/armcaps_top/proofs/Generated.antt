@@ -1,5 +1,5 @@
 -- What is written of a machine that is made from a number.
-use Rattle.std.proofs.Common.{◌≡◌, ℕ, List, refl, sym, ap, subst, ◌∙◌}
+use Rattle.std.proofs.Common.{◌≡◌, ℕ, List, refl, sym, ap, ◌∙◌}
 use Rattle.std.specs.Prelude.{Ok}
 use Rattle.armcaps_board.specs.Steps.{history}
 use Rattle.armcaps_boot.specs.Findings.{Findings, findings_of}
@@ -8,7 +8,6 @@ use Rattle.armcaps_patch.specs.Features.{features_of, features_of_findings}
 use Rattle.armcaps_text.specs.Document.{Reading}
 use Rattle.armcaps_text.specs.Generator.{generated_reading}
 use Rattle.armcaps_generate.specs.LargeImage.{generated_image}
-use Rattle.armcaps_text.specs.Sound.{IsSound}
 use Rattle.armcaps_top.specs.Answer.{output_in}
 use Rattle.armcaps_report.specs.Demo.{demo_lines}
 use Rattle.armcaps_top.specs.Demo.{counts_of, demo_output, generated_document}
@@ -26,10 +25,6 @@ lines_are seed cores reading image world text through is =
 pub document_made : (seed cores : ℕ) (reading : Reading) (image : List ℕ) → reading ≡ generated_reading seed cores → image ≡ generated_image seed cores
     → record { reading = reading; image = image } ≡ generated_document seed cores
 document_made seed cores reading image reading_is image_is = rw (reading_is, image_is) refl
-
--- it is sound
-pub sound_too : (seed cores : ℕ) (reading : Reading) → reading ≡ generated_reading seed cores → IsSound (generated_reading seed cores) → IsSound reading
-sound_too seed cores reading is sound = subst IsSound (sym is) sound
 
 -- what is written of it
 pub told : (seed cores : ℕ) (reading : Reading) (image : List ℕ) (world : World) (text : List ℕ)

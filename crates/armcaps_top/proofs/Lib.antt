@@ -15,11 +15,12 @@ pub mod Limits
 pub mod Loaded
 pub mod Outputs
 pub mod PatchedImages
+pub mod Performing
 pub mod PooledBaselines
 pub mod Pools
-pub mod Performing
 pub mod Promising
 pub mod ShortLines
 pub mod Sites
 pub mod SmallNumbers
 pub mod Unpatched
+pub mod WithinLimits

@@ -1,29 +1,24 @@
 -- From what is made of an answer to what a command does.
-use Rattle.std.proofs.Common.{◌≡◌, ◌≢◌, ℕ, ◌+◌, ◌*◌, ◌-◌, ◌≤◌, Bool, true, false, cond, nat_lt, List, [], ◌∷◌, ◌++◌, length, drop, Option, Some, None, refl, sym, ap, subst, ◌∙◌, arith}
+use Rattle.std.proofs.Common.{◌≡◌, ◌≢◌, ℕ, ◌+◌, ◌≤◌, false, List, [], ◌∷◌, ◌++◌, length, drop, Option, Some, None, refl, sym, ap, subst, ◌∙◌}
 use Rattle.std.specs.Prelude.{Result, Ok, Err, IfSome, unwrap_or}
-use Rattle.std.proofs.lemmas.Bool.Decides.{nat_tests}
 use Rattle.armcaps_boot.specs.World.{World}
 use Rattle.armcaps_io.specs.Causes.{Rose}
 use Rattle.armcaps_io.specs.Streams.{Appends, AppendsPrefix, GivesAtMost, GivesCount, Keeps}
-use Rattle.armcaps_text.specs.Document.{Outcome, Reads, Refuses, Reading, outcome}
-use Rattle.armcaps_text.specs.Formats.{format_of}
-use Rattle.armcaps_text.specs.Texts.{texts_of}
-use Rattle.armcaps_text.specs.declared.texts.TextsRefused.{TextsRefused}
+use Rattle.armcaps_text.specs.Document.{Reading}
 use Rattle.armcaps_top.specs.Answer.{Answer, answer_of, of_document, of_documents, output_in, refused, unless_stopped}
-use Rattle.armcaps_top.specs.Demo.{generated_document}
-use Rattle.armcaps_top.specs.Document.{Document, document, document_after, document_pair, documents, documents_after, pair_after, unless_refused}
+use Rattle.armcaps_top.specs.Document.{Document, document}
 use Rattle.armcaps_top.specs.Inside.{AreCoresGiven, Comes, Ends, IsNotRead, IsNotUp, IsRead, IsRefusedSo, IsThrough, IsUp, IsWhy, Performs, limit_of}
 use Rattle.armcaps_top.specs.Patch.{unless}
 use Rattle.armcaps_top.specs.Run.{Change, EndsSo, most_read, reads_input}
 use Rattle.armcaps_top.specs.declared.commands.Command.{Command}
-use Rattle.armcaps_top.specs.declared.commands.Command.TheVariants.{Ask, Patch, Elf, Jump, Pool, Audit, Demo}
 use Rattle.armcaps_top.specs.declared.ending.Ending.{Ending}
 use Rattle.armcaps_top.specs.declared.ending.Ending.TheVariants.{Done, ReadFault, WriteFault, Memory, NoOutput}
 use Rattle.armcaps_top.specs.declared.reason.Reason.{Reason}
 use Rattle.armcaps_top.specs.declared.reason.Reason.TheVariants.{Refused}
 use Rattle.armcaps_top.specs.declared.refusal.Refusal.{Refusal}
-use Rattle.armcaps_top.specs.declared.refusal.Refusal.TheVariants.{TooLong, ImageShort, Trailing}
-use Rattle.armcaps_top.proofs.Fitting.{fits, never_refused}
+use Rattle.armcaps_top.specs.declared.refusal.Refusal.TheVariants.{TooLong}
+use Rattle.armcaps_top.proofs.Fitting.{fits}
+use Rattle.armcaps_top.proofs.WithinLimits.{answer_short}
 
 -- nothing comes of an answer for want of memory
 pub no_memory : (answer : Answer) (machines : List World) → Comes answer machines (Err Memory)
@@ -68,11 +63,6 @@ none_taken read machines (NoOutput _) none is = absurd is
 pub document_is : (reading : Reading) (image bytes : List ℕ) (place : ℕ) → document bytes ≡ Ok (record { reading = reading; image = drop place bytes })
     → image ≡ drop place bytes → document bytes ≡ Ok (record { reading = reading; image = image })
 document_is reading image bytes place is from = rw from is
-
--- the same of whatever an input is read as
-pub read_as : (read : Result Document Refusal) (reading : Reading) (image rest : List ℕ) → read ≡ Ok (record { reading = reading; image = rest }) → image ≡ rest
-    → read ≡ Ok (record { reading = reading; image = image })
-read_as read reading image rest is same = rw same is
 
 -- one machine was brought up
 one_left : (old new : List World) (world : World) → new ≡ old ++ world ∷ [] → old ≡ [] → new ≡ world ∷ []
@@ -181,74 +171,6 @@ kept_too {A} bytes old new same = subst (λ (a : A). Keeps (bytes old) (bytes a)
 told_or : (left : Option (List ℕ)) → IfSome left (λ told. unwrap_or left [] ≡ told)
 told_or None = tt
 told_or (Some bytes) = refl
-
--- an input within its limit is not refused for its length
-no_image : (fewer more : Bool) (given image extra limit : ℕ) (found : Document)
-    → unless_refused (cond fewer (Some (ImageShort given image)) (cond more (Some (Trailing extra)) None)) found ≡ Err (TooLong limit) → ⊥
-no_image true more given image extra limit found is = cc
-no_image false true given image extra limit found is = cc
-no_image false false given image extra limit found is = cc
-
-after_short : (read : Outcome) (input : List ℕ) (limit : ℕ) → document_after read input ≡ Err (TooLong limit) → ⊥
-after_short (Refuses line kind) input limit is = cc
-after_short (Reads reading place) input limit is =
-    let given : ℕ = length input - place in
-    no_image (nat_lt given reading.image) (nat_lt reading.image given) given reading.image (given - reading.image) limit
-    (record { reading = reading; image = drop place input }) is
-
-document_short : (input : List ℕ) (limit : ℕ) → length input ≤ (format_of input).input → document input ≡ Err (TooLong limit) → ⊥
-unfolding document
-document_short input limit within is =
-    let test : nat_lt (format_of input).input (length input) ≡ false = grind (arith, nat_tests) in
-    after_short (outcome input) input limit (rw test at is)
-
-pair_after_short : (read : Outcome) (input : List ℕ) (limit : ℕ) → pair_after read input ≡ Err (TooLong limit) → ⊥
-pair_after_short (Refuses line kind) input limit is = cc
-pair_after_short (Reads reading place) input limit is =
-    let given : ℕ = length input - place in
-    let both : ℕ = 2 * reading.image in
-    no_image (nat_lt given both) (nat_lt both given) given both (given - both) limit
-    (record { reading = reading; image = drop place input }) is
-
-pair_short : (input : List ℕ) (limit : ℕ) → length input ≤ 269484032 → document_pair input ≡ Err (TooLong limit) → ⊥
-unfolding document_pair
-pair_short input limit within is =
-    let test : nat_lt 269484032 (length input) ≡ false = grind (arith, nat_tests) in
-    pair_after_short (outcome input) input limit (rw test at is)
-
--- texts are refused for no length
-texts_short : (texts : Result (List Reading) TextsRefused) (limit : ℕ) → documents_after texts ≡ Err (TooLong limit) → ⊥
-texts_short (Ok readings) limit is = cc
-texts_short (Err refused) limit is = cc
-
-documents_short : (input : List ℕ) (limit : ℕ) → length input ≤ 67108864 → documents input ≡ Err (TooLong limit) → ⊥
-unfolding documents
-documents_short input limit within is =
-    let test : nat_lt 67108864 (length input) ≡ false = grind (arith, nat_tests) in
-    texts_short (texts_of input) limit (rw test at is)
-
--- an answer of documents that is refused is one of documents that are
-all_refused : (read : Result (List Document) Refusal) (refusal : Refusal) → of_documents read ≡ refused refusal → read ≡ Err refusal
-all_refused (Err other) refusal is =
-    let same : Err (Refused other) ≡ Err (Refused refusal) = ap (λ (answer : Answer). answer.output) is in
-    let one : other ≡ refusal = cc in ap Err one
-all_refused (Ok all) refusal is = absurd (never_refused all refusal (ap (λ (answer : Answer). answer.output) is))
-
-of_refused : (command : Command) (read : Result Document Refusal) (refusal : Refusal) → of_document command read ≡ refused refusal → read ≡ Err refusal
-of_refused command (Ok found) refusal is = absurd (let none : found ∷ [] ≡ [] = ap (λ (answer : Answer). answer.machines) is in let no : ⊥ = cc in no)
-of_refused command (Err other) refusal is =
-    let same : Err (Refused other) ≡ Err (Refused refusal) = ap (λ (answer : Answer). answer.output) is in
-    let one : other ≡ refusal = cc in ap Err one
-
-answer_short : (command : Command) (bytes : List ℕ) (limit : ℕ) → length bytes ≤ limit_of command bytes → answer_of command bytes ≡ refused (TooLong limit) → ⊥
-answer_short (Ask query) bytes limit within is = document_short bytes limit within (of_refused (Ask query) (document bytes) (TooLong limit) is)
-answer_short Patch bytes limit within is = document_short bytes limit within (of_refused Patch (document bytes) (TooLong limit) is)
-answer_short (Jump table count) bytes limit within is = document_short bytes limit within (of_refused (Jump table count) (document bytes) (TooLong limit) is)
-answer_short Elf bytes limit within is = document_short bytes limit within (of_refused Elf (document bytes) (TooLong limit) is)
-answer_short Pool bytes limit within is = documents_short bytes limit within (all_refused (documents bytes) (TooLong limit) is)
-answer_short Audit bytes limit within is = pair_short bytes limit within (of_refused Audit (document_pair bytes) (TooLong limit) is)
-answer_short (Demo seed cores) bytes limit within is =
-    let no = of_refused (Demo seed cores) (Ok (generated_document seed cores)) (TooLong limit) is in absurd (let never : ⊥ = cc in never)
 
 -- a command that reads its input whole, and answers it
 pub performed : (command : Command) (input out : Change) (bytes slice : List ℕ) (machines : List World) (ending : Ending) → AreCoresGiven (Some command)

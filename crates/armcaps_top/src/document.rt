@@ -3,10 +3,10 @@
 ghost use Rattle.std.specs.Prelude.{◌≡◌, ◌<◌, ◌≤◌, ◌+◌, ◌*◌, IfOk, IfErr, Ok, drop, length, map};
 ghost use Rattle.std.specs.List.{All};
 ghost use Rattle.armcaps_alt.specs.Names.{IsKnown};
-ghost use Rattle.armcaps_text.specs.Document.{reading_of};
+ghost use Rattle.armcaps_text.specs.Document.{Reads, outcome, reading_of};
 ghost use Rattle.armcaps_text.specs.Formats.{format_of};
 ghost use Rattle.armcaps_text.specs.Sound.{IsSound};
-ghost use Rattle.armcaps_top.specs.Document.{document, document_pair, documents, documents_after, image_refusal};
+ghost use Rattle.armcaps_top.specs.Document.{document, document_after, document_pair, documents, documents_after, image_refusal, pair_after};
 ghost use Rattle.armcaps_top.specs.Inside.{IsRefusedSo};
 
 use crate::ending::Ending;
@@ -33,6 +33,23 @@ fn image_refusal(image: u32, given: usize) -> Option<Refusal>
     }
 }
 
+// The machine of the text at the beginning of the bytes and the place behind it, or else why the text is refused.
+fn text_of(alloc: Global, bytes: &[u8]) -> Result<(Machine, usize), Ending>
+    ensures reads { IfOk result (λ read. outcome bytes.now ≡ Reads (reading_of read.0) read.1) }
+    ensures place { IfOk result (λ read. read.1 ≤ length bytes.now) }
+    ensures sound { IfOk result (λ read. IsSound (reading_of read.0)) }
+    ensures refused { IfErr result (IsRefusedSo (document_after (outcome bytes.now) bytes.now)) }
+    ensures refused_in_a_pair { IfErr result (IsRefusedSo (pair_after (outcome bytes.now) bytes.now)) }
+{
+    match Machine::read(alloc, bytes) {
+        Ok(read) => Ok(read),
+        Err(TextRefused::Line { line, kind }) => {
+            Err(Ending::NoOutput(Reason::Refused(Refusal::Line { line, kind })))
+        }
+        Err(TextRefused::Memory) => Err(Ending::Memory),
+    }
+}
+
 /// The machine of a document and the place where its image begins, or else why the input is no document.
 #[tactic(auto, unfolding(crate::specs::Document::document), using(crate::proofs::Images::image_whole))]
 pub fn machine_of(alloc: Global, bytes: &[u8]) -> Result<(Machine, usize), Ending>
@@ -43,13 +60,7 @@ pub fn machine_of(alloc: Global, bytes: &[u8]) -> Result<(Machine, usize), Endin
     ensures whole { IfOk result (λ read. read.1 + read.0.image ≡ length bytes.now) }
     ensures refused { IfErr result (IsRefusedSo (document bytes.now)) }
 {
-    let (machine, place) = match Machine::read(alloc, bytes) {
-        Ok(read) => read,
-        Err(TextRefused::Line { line, kind }) => {
-            return Err(Ending::NoOutput(Reason::Refused(Refusal::Line { line, kind })));
-        }
-        Err(TextRefused::Memory) => return Err(Ending::Memory),
-    };
+    let (machine, place) = text_of(alloc, bytes)?;
     match image_refusal(machine.image, bytes.len() - place) {
         None => Ok((machine, place)),
         Some(refusal) => Err(Ending::NoOutput(Reason::Refused(refusal))),
@@ -68,13 +79,7 @@ pub fn machine_of_pair(alloc: Global, bytes: &[u8]) -> Result<(Machine, usize), 
     ensures whole { IfOk result (λ read. read.1 + 2 * read.0.image ≡ length bytes.now) }
     ensures refused { IfErr result (IsRefusedSo (document_pair bytes.now)) }
 {
-    let (machine, place) = match Machine::read(alloc, bytes) {
-        Ok(read) => read,
-        Err(TextRefused::Line { line, kind }) => {
-            return Err(Ending::NoOutput(Reason::Refused(Refusal::Line { line, kind })));
-        }
-        Err(TextRefused::Memory) => return Err(Ending::Memory),
-    };
+    let (machine, place) = text_of(alloc, bytes)?;
     match image_refusal(2 * machine.image, bytes.len() - place) {
         None => Ok((machine, place)),
         Some(refusal) => Err(Ending::NoOutput(Reason::Refused(refusal))),

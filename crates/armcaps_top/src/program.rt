@@ -99,6 +99,18 @@ fn perform<S: Source, O: Sink>(
 /// - 10: the image of `elf` is refused as an ELF file of a kernel, or an entry that is selected isn't loaded.
 /// - 11: the table of jump labels does not lie within the image, or an entry of it is refused.
 /// - 12: the second image of `audit` is not the patched one.
+///
+/// # Examples
+///
+/// ```
+/// let words = ["report".to_string(alloc)?];
+/// let mut input = SureSource::new(text, 4096);
+/// let mut out = MemSink::new(alloc, 200_000, 4096, Vec::new(alloc))?;
+/// let mut err = MemSink::new(alloc, 200_000, 4096, Vec::new(alloc))?;
+/// let mut machines = Vec::new(alloc);
+/// let status = run(alloc, &words, &mut input, &mut out, &mut err, &mut machines);
+/// assert_eq!(rt; status, 0);
+/// ```
 pub fn run<S: Source, O: Sink, E: Sink>(
     alloc: Global,
     words: &[String],

@@ -15,7 +15,7 @@ ghost use Rattle.armcaps_top.specs.Inside.{Comes, IsWhy, as_bytes};
 ghost use Rattle.armcaps_top.specs.declared.commands.Command.TheVariants as Command;
 
 use crate::bringing::{bring, only};
-use crate::commands::patch::{bytes_from, check};
+use crate::commands::patch::check;
 use crate::document::machine_of_pair;
 use crate::ending::Ending;
 use crate::reason::Reason;
@@ -23,7 +23,7 @@ use armcaps_alt::{Layout, Names, known_capabilities_decide};
 use armcaps_boot::Boot;
 use armcaps_patch::enabled_on;
 use armcaps_pool::{Verdict, audit as audit_image};
-use armcaps_text::Machine;
+use armcaps_text::{Machine, bytes_from};
 use std::alloc::{AllocError, Global};
 
 // Whether an image is another one, patched for the machine.

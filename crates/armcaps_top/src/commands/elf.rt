@@ -20,7 +20,7 @@ ghost use Rattle.armcaps_top.specs.declared.commands.Command.TheVariants as Comm
 ghost use Rattle.armcaps_top.specs.declared.reason.Reason.TheVariants as Reason;
 
 use crate::bringing::{bring, only};
-use crate::commands::patch::{bytes_from, check, patched};
+use crate::commands::patch::{check, patched};
 use crate::document::machine_of;
 use crate::ending::Ending;
 use crate::reason::Reason;
@@ -31,7 +31,7 @@ use armcaps_elf::{Elf, ElfRefused};
 use armcaps_image::place_within;
 use armcaps_io::Sink;
 use armcaps_patch::{enabled_on, entry_at};
-use armcaps_text::Machine;
+use armcaps_text::{Machine, bytes_from};
 use std::alloc::Global;
 
 /// The word of a kind for which an ELF file is refused.

@@ -17,7 +17,7 @@ ghost use Rattle.armcaps_top.specs.Jump.{labelled};
 ghost use Rattle.armcaps_top.specs.Run.{change};
 ghost use Rattle.armcaps_top.specs.declared.commands.Command.TheVariants as Command;
 
-use crate::commands::patch::{bytes_from, patched, plan_of};
+use crate::commands::patch::{patched, plan_of};
 use crate::document::machine_of;
 use crate::ending::Ending;
 use crate::reason::Reason;
@@ -25,7 +25,7 @@ use armcaps_boot::Boot;
 use armcaps_io::Sink;
 use armcaps_jump::{JumpRefused, Jumps};
 use armcaps_patch::Plan;
-use armcaps_text::Machine;
+use armcaps_text::{Machine, bytes_from};
 use std::alloc::{AllocError, Global};
 use std::borrow::CowSlice;
 

@@ -1,6 +1,6 @@
 //! `patch`: the image, patched for the machine.
 
-ghost use Rattle.std.specs.Prelude.{◌≡◌, ◌+◌, ◌*◌, ◌≤◌, ◌^◌, IfErr, IfOk, [], drop, length, true};
+ghost use Rattle.std.specs.Prelude.{◌≡◌, ◌+◌, ◌*◌, ◌≤◌, ◌^◌, IfErr, IfOk, [], length, true};
 ghost use Rattle.armcaps_alt.specs.Entries.{Features};
 ghost use Rattle.armcaps_alt.specs.Patched.{patched_image};
 ghost use Rattle.armcaps_alt.specs.declared.table_place.Layout.{Layout as Place};
@@ -26,7 +26,7 @@ use armcaps_alt::{Layout, Names};
 use armcaps_boot::Boot;
 use armcaps_io::Sink;
 use armcaps_patch::{PatchRefused, Plan};
-use armcaps_text::Machine;
+use armcaps_text::{Machine, bytes_from};
 use std::alloc::{AllocError, Global};
 
 /// Plans the patched image, or says why there is none.
@@ -87,14 +87,6 @@ pub fn patched(alloc: Global, plan: &Plan, image: &[u8]) -> Result<Vec<u8>, Allo
         Ok(()) => Ok(sink.bytes),
         Err(_) => Err(AllocError),
     }
-}
-
-/// The bytes from a place on.
-pub fn bytes_from(bytes: &[u8], place: usize) -> &[u8]
-    requires { place ≤ length bytes.now }
-    ensures { result.now ≡ drop place bytes.now }
-{
-    &bytes[place..]
 }
 
 /// Brings the machine of a document up, leaves it in `machines`, and writes the image, patched for the machine.
