@@ -1,5 +1,5 @@
--- The words of a command line. That spaces and tabs cut it, and that `--` ends what counts, is this project's own rule
--- (after Linux, kernel/params.c, `parse_args`).
+-- The words of a command line. That `--` ends what counts is Linux's rule (arch/arm64/kernel/idreg-override.c,
+-- `__parse_cmdline`); that spaces and tabs alone cut it is this project's own.
 use Rattle.std.specs.Prelude.{ℕ, Bool, List, [], ◌∷◌, codes}
 use Rattle.std.specs.List.{before_first}
 use Rattle.std.specs.Str.{bytes_eq}

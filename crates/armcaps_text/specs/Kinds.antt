@@ -53,7 +53,7 @@ tells_of_core given = elim given [
   | _ ↦ false
 ]
 
--- a line of a core's register, or of the boot core, before any core
+-- a line of a core's register or vector lengths, or of the boot core, before any core
 abbrev pub lacks_core : Before → Line (List ℕ) → Bool
 lacks_core before given = (length before.cores == 0) && (tells_of_core given || (section_of given == 2))
 

@@ -15,7 +15,8 @@ pub enum TextKind {
     /// The first token of the line is no word of the format.
     UnknownLine,
     /// A second header; a section lower than an earlier line's; a second `boot`, `cmdline`, `conduit` or `table`
-    /// line; a `boot` line or a register's before any `core` line; a line of a later section before the `boot` line.
+    /// line; a `boot` line, a register's or an `sve_vl` line before any `core` line; a line of a later section before the
+    /// `boot` line.
     Order,
     /// The line has too few or too many tokens.
     Tokens,
@@ -23,7 +24,7 @@ pub enum TextKind {
     Number,
     /// A name is not one of those that the line takes.
     Name,
-    /// A register is given twice in a core; a number or a callback's offset is named twice.
+    /// A register or `sve_vl` is given twice in a core; a number or a callback's offset is named twice.
     Twice,
     /// A core's number is not the next one, or there is no such core.
     CoreNumber,

@@ -138,8 +138,9 @@ pub record Promises (command : Option Command) (input out err : Change) (machine
   -- relied on
   pub done : status ≡ 0 → Writes (answer_for command bytes) out × IsReadWhole command input
   pub safe : status ≡ 0 → AreSafe (answer_for command bytes).machines
-  -- the input is refused, as of one byte more than a limit that it passes
+  -- the input is refused
   pub refused : status ≡ 3 → IsRefused (answer_for command bytes)
+  -- of an input that is refused for its length, one byte past the limit was read
   pub too_long : (limit : ℕ) → ending ≡ NoOutput (Refused (TooLong limit)) → GivesCount input.old input.new (limit + 1)
   -- the input failed in this call; or the output, which got a first part of what the command writes
   pub read_fault : status ≡ 4 → ReadFails command input
