@@ -1,17 +1,13 @@
 """What is tried with the page in a browser. Each trial ends with a line, or with what is not so."""
 
 import base64
-import hashlib
-import pathlib
 import re
 import subprocess
-import tempfile
 import time
 
 from armcaps_tools import profile, text
 
-from . import documents, drawn, images, pictures
-from .page import Page
+from . import documents, drawn, pictures
 
 TOP = documents.TOP
 
@@ -129,29 +125,6 @@ class Trials:
     def refusal(self, data):
         return self.run("report", data).stderr
 
-    def audits(self):
-        """A second image: the patched one, one with another byte, and one that is too short."""
-        given, image = images.document(1 << 16, 50, 5)
-        patched = self.run("patch", given + image).stdout
-        place = 4096
-        changed = patched[:place] + bytes([patched[place] ^ 1]) + patched[place + 1 :]
-        cases = (patched, 0, "Yes: "), (changed, 12, f"No: byte {place} "), (patched[:-1], 3, "armcaps: image short")
-        for second, status, wanted in cases:
-            drawn.same("status of audit", self.run("audit", given + image + second).returncode, status)
-            with tempfile.TemporaryDirectory() as folder:
-                kernel, other = pathlib.Path(folder) / "kernel.txt", pathlib.Path(folder) / "second.img"
-                kernel.write_bytes(given + image)
-                other.write_bytes(second)
-                self.page.choose(kernel)
-                self.page.ask("void (document.getElementById('command').value = 'audit', showCommand())")
-                self.page.browser.choose("#second", other)
-                self.page.wait("state.second !== null")
-            self.page.ask("void document.getElementById('patch').click()")
-            self.page.wait("document.body.dataset.patched === String(state.turn)")
-            told = self.page.ask("document.getElementById('patch-answer').textContent")
-            drawn.same("audit", told[: len(wanted)], wanted)
-        return "an audit of the patched image, of one with another byte, and of a shorter one"
-
     def words(self):
         """Words that are no command, and `demo`, which reads nothing."""
         cases = ["", "report x", "mrs 0", "mrs 0 0xD5380600", "demo 7 12", "Report", "demo 0 65", "  report  "]
@@ -160,33 +133,6 @@ class Trials:
             said = program.returncode, program.stdout, program.stderr.decode().strip()
             drawn.same(words, self.page.run(words, b""), said)
         return f"{len(cases)} lines of words"
-
-    def patch(self, megabytes, entries):
-        """A large image, opened as a file and patched by its button."""
-        given, image = images.document(megabytes * 1000000 & ~15, entries, 1)
-        program = self.run("patch", given + image)
-        drawn.same("status", program.returncode, 0)
-        with tempfile.TemporaryDirectory() as folder:
-            path = pathlib.Path(folder) / "kernel.txt"
-            path.write_bytes(given + image)
-            self.page.choose(path)
-            begin = time.monotonic()
-            self.page.ask("void document.getElementById('patch').click()")
-            self.page.wait("document.body.dataset.patched === String(state.turn)")
-            seconds = time.monotonic() - begin
-        drawn.same("patched image", self.patched(self.page), hashlib.sha256(program.stdout).digest())
-        self.counted(given, image, program.stdout)
-        return f"an image of {megabytes} MB patched in {seconds:.2f} s, with the program's bytes"
-
-    def counted(self, given, image, patched):
-        """The page's count of changed words, beside that of the images themselves."""
-        rows = self.page.ask(
-            "[...document.querySelectorAll('#patched tbody tr')].map((row) => "
-            "[row.dataset.number, ...[...row.querySelectorAll('td')].map((cell) => Number(cell.textContent))])"
-        )
-        changed = sum(image[at : at + 4] != patched[at : at + 4] for at in range(0, len(image), 4))
-        entries = int(re.search(rb"^table \d+ (\d+)$", given, re.MULTILINE)[1])
-        drawn.same("entries and changed words", [rows[-1][1], rows[-1][4]], [entries, changed])
 
     def saves(self):
         """The text and the report, as they are saved."""
@@ -204,54 +150,6 @@ class Trials:
                 time.sleep(0.05)
             drawn.same(name, saved.read_bytes() if saved.is_file() else None, wanted)
         return "the text and the report are saved as they are"
-
-    def board(self):
-        """A page that tools/page wrote, with a text and its image in it."""
-        given, image = images.document(1 << 20, 500, 2)
-        program = self.run("patch", given + image)
-        with tempfile.TemporaryDirectory() as folder:
-            board, page = pathlib.Path(folder) / "board.txt", pathlib.Path(folder) / "board.html"
-            board.write_bytes(given + image)
-            tool = [TOP / "tools/page", "--page", self.path, board]
-            page.write_bytes(subprocess.run(tool, capture_output=True, check=True).stdout)
-            opened = Page(self.page.browser, page)
-            drawn.same("title", opened.ask("document.title"), "board.txt: armcaps")
-            drawn.same("patched image", self.patched(opened), hashlib.sha256(program.stdout).digest())
-        Page(self.page.browser, self.path)
-        return "a page with a text and an image of 1 MiB in it, by tools/page, patched"
-
-    def other_commands(self):
-        """An image with jump labels, and a vmlinux, each opened as a file and patched by its own command."""
-        given, image = images.document(1 << 20, 300, 3)
-        place, count = len(image) // 8 * 7, 200
-        labelled = images.with_jump_labels(image, place, count, 4)
-        table, entries = map(int, re.search(rb"^table (\d+) (\d+)$", given, re.MULTILINE).groups())
-        kernel = images.vmlinux(image, table, entries)
-        self.commanded(f"jump {place:#x} {count}", given + labelled)
-        self.commanded("elf", images.text_for(given, len(kernel)) + kernel)
-        return "an image with jump labels and a vmlinux, by jump and elf"
-
-    def commanded(self, words, data):
-        """A command of its own on a text with its image: the answer, beside the program's."""
-        program = self.run(words, data)
-        drawn.same(f"status of {words}", (program.returncode, program.stderr), (0, b""))
-        with tempfile.TemporaryDirectory() as folder:
-            path = pathlib.Path(folder) / "kernel.txt"
-            path.write_bytes(data)
-            self.page.choose(path)
-        command, _, numbers = words.partition(" ")
-        chosen = self.page.ask("document.getElementById('command').value")
-        drawn.same("command that the page chose", chosen, "elf" if command == "elf" else "patch")
-        choice = f"document.getElementById('command').value = '{command}'"
-        self.page.ask(f"void ({choice}, document.getElementById('labels').value = '{numbers}')")
-        drawn.same(words, self.patched(self.page), hashlib.sha256(program.stdout).digest())
-
-    def patched(self, page):
-        """The sum of the image that the page's button patches."""
-        page.ask("void document.getElementById('patch').click()")
-        page.wait("document.body.dataset.patched === String(state.turn)")
-        digest = "crypto.subtle.digest('SHA-256', state.patched).then((sum) => [...new Uint8Array(sum)])"
-        return bytes(page.ask(digest))
 
     def figures(self):
         """Times: the page opened and drawn, a warm report, and one of 512 cores."""

@@ -42,7 +42,7 @@ function setText(bytes) {
   const isSame = asCharacters(encoder.encode(text.value)) === asCharacters(bytes);
   const loaded = isSame ? null : bytes;
   Object.assign(state, { loaded, image: null, imageName: "", second: null, commandLine: null, isEdit: false });
-  $("cmdline").value = "";
+  $("cmdline").value = $("second").value = "";
   $("examples").value = DATA.examples.find((one) => one.text === text.value)?.name ?? "";
 }
 
@@ -165,6 +165,8 @@ function listen() {
     forgetPatch();
     showCommand();
   });
+  // a file that was written anew can be chosen again
+  on("second", "click", () => { $("second").value = ""; });
   on("second", "change", takeSecond);
   on("quiet", "change", drawFields);
   on("find", "input", drawFields);

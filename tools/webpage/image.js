@@ -140,7 +140,9 @@ async function takeSecond() {
 }
 
 function remedyOfPatch({ status, err }) {
-  if (status === 3 && $("command").value === "audit") return ". The second image wants as many bytes as the first.";
+  if (status === 3 && $("command").value === "audit") {
+    return `. ${state.second ? "The second image wants as many bytes as the first" : "Open the second image too"}.`;
+  }
   if (status === 2) return ". The jump labels want two numbers, OFFSET and COUNT: armcaps-kernel2text says both.";
   const found = err.match(/^armcaps: (patch|elf|jump): (?:entry \d+: )?kind (\d+)/);
   return found ? `. ${DATA.patching[found[1]][found[2]]}` : "";
