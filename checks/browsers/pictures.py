@@ -5,6 +5,7 @@ from armcaps_tools import text
 from .documents import TOP
 
 SHOWN = "late-core"
+POOL = ("late-core", "a57-a53", "qemu-max", "big-little", "hotplug")
 CONFLICT = "[...document.querySelectorAll('#matrix td.limits')][2]"
 
 
@@ -43,12 +44,14 @@ def of_readme(page, path):
 
 
 def all_of(page, folder):
-    """Pictures to be looked at: each example in light, and one of them in dark, on a phone and as it prints."""
+    """Pictures to be looked at: examples in light, some as a pool, and a board in dark, on a phone and as it prints."""
     folder.mkdir(parents=True, exist_ok=True)
     quiet_rows_folded(page)
     for path in sorted((TOP / "examples").glob("*.txt")):
         page.put(path.read_bytes())
         shot(page, folder / f"{path.stem}.png", 1200)
+    page.put(b"".join((TOP / f"examples/{name}.txt").read_bytes() for name in POOL))
+    shot(page, folder / "pool.png", 1200)
     page.put(board())
     shot(page, folder / "dark.png", 1200, dark=True)
     shot(page, folder / "phone.png", 390)
