@@ -8,9 +8,9 @@ ghost use Rattle.armcaps_patch.specs.Accepting.{IsPlaced, KeepsOrRefuses};
 ghost use Rattle.armcaps_patch.specs.Kept.{IsKept, kept_of};
 
 use crate::kept::Kept;
-use crate::words::{moved, takes_addresses};
+use crate::words::{moved, takes_address, takes_addresses};
 use armcaps_alt::{CallbackKind, Entry, Names, PatchKind};
-use armcaps_image::place_within;
+use armcaps_image::{place_within, word};
 use armcaps_insn::FixRefused;
 
 // What is kept of a selected entry, or the least kind that holds of it.
@@ -135,10 +135,12 @@ fn refused_by_words(kept: &Kept, image: &[u8]) -> Option<PatchKind>
 {
     let mut is_out_of_range = false;
     for index in 0..u32::from(kept.len / 4) {
-        match moved(kept, index, image) {
-            Ok(_) => {}
-            Err(FixRefused::Literal { .. }) => return Some(PatchKind::Literal),
-            Err(FixRefused::Range { .. }) => is_out_of_range = true,
+        if takes_address(word(image, kept.repl as usize + 4 * index as usize)) {
+            match moved(kept, index, image) {
+                Ok(_) => {}
+                Err(FixRefused::Literal { .. }) => return Some(PatchKind::Literal),
+                Err(FixRefused::Range { .. }) => is_out_of_range = true,
+            }
         }
     }
     if is_out_of_range {

@@ -78,7 +78,7 @@ pub(crate) fn takes_addresses(image: &[u8], begin: usize, words: usize) -> bool
 }
 
 // Whether a word takes an address from the place where it stands, as its highest byte tells.
-fn takes_address(word: u32) -> bool
+pub(crate) fn takes_address(word: u32) -> bool
     ensures { result ≡ false → class_of word ≡ Other }
 {
     TAKES_ADDRESS[(word / 0x100_0000) as usize] != 0
