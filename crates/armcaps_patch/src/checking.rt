@@ -22,6 +22,19 @@ use std::alloc::{AllocError, Global};
 impl Plan {
     /// A plan of the patched image: the entries of its table are asked in their order, and the first one that is
     /// refused ends it. The table lies in the image, and the machine's capabilities are final.
+    ///
+    /// # Errors
+    ///
+    /// `PatchRefused::Entry` with the first entry that is refused and the least kind for which it is, and
+    /// `PatchRefused::Memory` where there is no memory.
+    ///
+    /// # Examples
+    ///
+    /// ```
+    /// let layout = Layout { table: 64, count: 2 };
+    /// let plan = Plan::check(rt.alloc(), image, layout, &names, &boot)?;
+    /// plan.write(image, &mut out)?;
+    /// ```
     pub fn check(
         alloc: Global,
         image: &[u8],
