@@ -28,8 +28,8 @@ MANUALS := armcaps $(TOOLS:%=armcaps-%)
 EXAMPLES := $(wildcard examples/*.*)
 DUMPS := $(wildcard examples/dumps/*)
 PATCHING := examples/patching/make-kernel examples/patching/cpucap-defs.h
-# antt, contracts and theorem read the definitions of the crates, which an installed copy has not
-MODULES := $(filter-out %/antt.py %/contracts.py %/theorem.py,$(wildcard tools/armcaps_tools/*.py))
+# antt, contracts and theorem read the definitions of the crates, which an installed copy has not; pictures is for a page
+MODULES := $(filter-out %/antt.py %/contracts.py %/theorem.py %/pictures.py,$(wildcard tools/armcaps_tools/*.py))
 SHAPES := $(wildcard tools/armcaps_tools/dumps/*.py)
 # the package for Python, by which the tools read reports
 PACKAGE := $(wildcard python/armcaps/*.py)
