@@ -18,8 +18,6 @@ import tempfile
 import measure
 from patch_documents import DOCUMENTS
 
-RUNS = 5
-
 
 def made(folder, name, count):
     """The document, in a process of its own, so that this one stays small."""
@@ -45,8 +43,8 @@ def measured(program, folder, document):
     with open(pair, "wb") as file, open(document, "rb") as given:
         subprocess.run(["cat", document], stdout=file, check=True)
         subprocess.run([program, "patch"], stdin=given, stdout=file, check=True)
-    (patch,) = measure.best([[program, "patch"]], document, RUNS, piped=True)
-    (audit,) = measure.best([[program, "audit"]], pair, RUNS, piped=True)
+    (patch,) = measure.best([[program, "patch"]], document, measure.RUNS, piped=True)
+    (audit,) = measure.best([[program, "audit"]], pair, measure.RUNS, piped=True)
     return patch, audit, pair.stat().st_size
 
 

@@ -6,9 +6,9 @@ For each it prints the time of both with their output piped to cat (the best of 
 then how the processor time beyond hold grows from half of the entries or sections to all of them. It is no test: it asserts
 nothing.
 
-usage: bench/elf_time.py [PROGRAM [NAME..]]     ARMCAPS_OTHER: another program that knows `elf`, measured beside it
+usage: bench/elf_time.py [PROGRAM [NAME..]]
+       ARMCAPS_OTHER: another program that knows `elf`, measured beside it
 """
-import os
 import pathlib
 import subprocess
 import sys
@@ -16,8 +16,6 @@ import tempfile
 
 import measure
 from elf_documents import DOCUMENTS
-
-RUNS = 5
 
 
 def measured(programs, hold, folder, name, share):
@@ -27,7 +25,7 @@ def measured(programs, hold, folder, name, share):
     with open(path, "wb") as file:
         maker = str(measure.TOP / "bench/elf_documents.py")
         subprocess.run([sys.executable, maker, name, str(share)], stdout=file, check=True)
-    found = measure.best([[hold]] + [[program, "elf"] for program in programs], path, RUNS, piped=True)
+    found = measure.best([[hold]] + [[program, "elf"] for program in programs], path, measure.RUNS, piped=True)
     return found, pathlib.Path(path).stat().st_size
 
 
@@ -44,14 +42,16 @@ def main():
     if "elf" not in measure.words(program):
         print("the program has no word `elf`")
         return
-    programs = [program] + ([os.environ["ARMCAPS_OTHER"]] if "ARMCAPS_OTHER" in os.environ else [])
+    programs = [program, *measure.others()]
     with tempfile.TemporaryDirectory() as folder:
-        hold = f"{folder}/hold"
-        subprocess.run([os.environ.get("CC", "cc"), "-O2", "-o", hold, str(measure.TOP / "bench/hold.c")], check=True)
+        hold = measure.hold(folder)
         for name in sys.argv[2:] or DOCUMENTS:
             (floor, *runs), size = measured(programs, hold, folder, name, 1)
             for other, run in zip(programs, runs):
                 tell(name, other, run, floor, size)
+            for other, run in zip(programs[1:], runs[1:]):
+                print(f"{'':10}armcaps against {other}: ratio {runs[0].seconds / run.seconds:.2f}", end="")
+                print(f", peak {(runs[0].peak - run.peak) / 1048576:+.1f} MiB", flush=True)
             (half_floor, half, *_), _ = measured(programs, hold, folder, name, 2)
             grown = (runs[0].processor - floor.processor) / (half.processor - half_floor.processor)
             print(f"{'':10}beyond hold, all against half of the entries or sections: {grown:.2f}", flush=True)

@@ -16,8 +16,6 @@ import tempfile
 import measure
 from jump_documents import DOCUMENTS
 
-RUNS = 5
-
 
 def measured(program, folder, name, count):
     """The best runs of `jump` and of `patch`, and the length of the input."""
@@ -26,7 +24,7 @@ def measured(program, folder, name, count):
     with open(path, "wb") as file:
         maker = str(measure.TOP / "bench/jump_documents.py")
         subprocess.run([sys.executable, maker, name, str(count)], stdout=file, check=True)
-    jump, patch = measure.best([[program, "jump", "0", str(count)], [program, "patch"]], path, RUNS, piped=True)
+    jump, patch = measure.best([[program, "jump", "0", str(count)], [program, "patch"]], path, measure.RUNS, piped=True)
     return jump, patch, pathlib.Path(path).stat().st_size
 
 

@@ -9,6 +9,7 @@ import time
 
 TOP = pathlib.Path(__file__).resolve().parent.parent
 PROGRAM = str(TOP / "crates/armcaps/out/armcaps")
+RUNS = 7
 
 
 class Run:
@@ -56,6 +57,18 @@ def words(program):
     """The words that the program knows, as its usage line lists them."""
     usage = subprocess.run([program], stdin=subprocess.DEVNULL, capture_output=True).stderr.decode()
     return [form.split()[0] for form in usage.strip().removeprefix("armcaps: usage: armcaps ").split(" | ")]
+
+
+def others():
+    """The program that ARMCAPS_OTHER names, to be measured beside armcaps, if it names one."""
+    return [os.environ["ARMCAPS_OTHER"]] if "ARMCAPS_OTHER" in os.environ else []
+
+
+def hold(folder):
+    """bench/hold.c, built in that folder."""
+    made = f"{folder}/hold"
+    subprocess.run([os.environ.get("CC", "cc"), "-O2", "-o", made, str(TOP / "bench/hold.c")], check=True)
+    return made
 
 
 CAT = ["sh", "-c", "cat | cat"]

@@ -2,9 +2,9 @@
 """Documents with large tables of alternatives, made by seed: the same bytes for the same name, count and seed.
 
 Each image begins with its table. Sites hold NOPs; replacements hold moves, calls, pages and NOPs, so that some words are corrected
-and others copied. Every entry is selected and none is refused.
+and others copied. Every entry is selected, but of `none-selected`, and none is refused.
 
-usage: bench/patch_documents.py NAME [COUNT [SEED]] > DOCUMENT      without a name: lists the names
+usage: bench/patch_documents.py NAME [COUNT [SEED [LENGTH]]] > DOCUMENT      without a name: lists the names
 """
 import array
 import random
@@ -20,6 +20,7 @@ boot 0
 finalise
 number 1 ALWAYS_SYSTEM
 given 2 FIRMWARE_STATE on
+given 3 FIRMWARE_LACK off
 conduit hvc
 callback {CALLBACKS} nops
 callback {CALLBACKS + 1} final_ctr
@@ -42,12 +43,12 @@ class Image:
     def words_at(self, place, words):
         self.words[place // 4 : place // 4 + len(words)] = array.array("I", words)
 
-    def replacement(self, place, count):
-        """Words of a replacement: a call and a page of every eight, moves and NOPs."""
+    def replacement(self, place, count, kinds=8):
+        """Words of a replacement: a call and a page of every eight, moves and NOPs; of 2 kinds calls and pages alone."""
         made = []
         for word in range(count):
             draw = self.draw.getrandbits(24)
-            kind = draw & 7
+            kind = draw % kinds
             if kind == 0:
                 target = self.sites + 4 * (draw >> 4 & 0xFFFF)
                 made.append(0x94000000 | (target - place - 4 * word) // 4 & 0x3FFFFFF)
@@ -73,14 +74,14 @@ class Image:
         return self.bytes
 
 
-def apart(image, count, stride):
+def apart(image, count, stride, kinds=8, lacking=False):
     """Sites of 4 to 16 bytes, so many bytes apart, each with a replacement of its own."""
     for number in range(count):
         length = 1 + image.draw.getrandbits(2)
         site, replacement = image.sites + stride * number, image.replacements + 16 * number
         image.words_at(site, [NOP] * length)
-        image.replacement(replacement, length)
-        image.entry(site, replacement, 4 * length, number=1 + number % 2)
+        image.replacement(replacement, length, kinds)
+        image.entry(site, replacement, 4 * length, number=3 if lacking else 1 + number % 2)
 
 
 def scattered(image, count):
@@ -99,6 +100,16 @@ def shuffled(image, count):
     image.draw.shuffle(image.entries)
 
 
+def branches(image, count):
+    """The same, with replacements of calls and pages alone."""
+    apart(image, count, 32, kinds=2)
+
+
+def lacking(image, count):
+    """The same, of which no entry is selected."""
+    apart(image, count, 32, lacking=True)
+
+
 def layered(deep):
     """Sites of so many words, each 4 bytes after the one before, with replacements that overlap in the same way."""
 
@@ -110,11 +121,15 @@ def layered(deep):
     return fill
 
 
-def one_site(image, count):
-    """One site of 16 bytes that every entry names."""
-    image.replacement(image.replacements, 65536)
-    for number in range(count):
-        image.entry(image.sites, image.replacements + 4 * (number % 60000), 16)
+def one_site(words):
+    """One site of so many words that every entry names."""
+
+    def fill(image, count):
+        image.replacement(image.replacements, 65536)
+        for number in range(count):
+            image.entry(image.sites, image.replacements + 4 * (number % 60000), 4 * words)
+
+    return fill
 
 
 def callbacks(image, count):
@@ -132,16 +147,21 @@ DOCUMENTS = {
     "disjoint": (disjoint, MOST, 1_048_576),
     "sixteen-deep": (layered(16), MOST, 1_048_576),
     "63-deep": (layered(63), MOST, 1_048_576),
-    "one-site": (one_site, MOST, 1_048_576),
+    "one-site": (one_site(4), MOST, 1_048_576),
+    "one-long-site": (one_site(63), MOST, 1_048_576),
     "random-order": (shuffled, MOST, 1_048_576),
+    "branches": (branches, MOST, 1_048_576),
+    "none-selected": (lacking, MOST, 1_048_576),
     "callbacks": (callbacks, MOST, 1_048_576),
 }
 
 
-def document(name, count=None, seed=1):
-    """The text and the image."""
-    fill, length, usual = DOCUMENTS[name]
-    count = usual if count is None else count
+def document(name, count=None, seed=1, length=None):
+    """The text and the image, of the name's usual count and length where none is given."""
+    fill, usual_length, usual_count = DOCUMENTS[name]
+    count, length = count or usual_count, length or usual_length
+    if 12 * count > length // 8 or 32 * count > length * 3 // 8:
+        sys.exit(f"patch_documents: {count} entries do not fit into {length} bytes")
     image = Image(length, seed)
     fill(image, count)
     text = f"{TEXT}table 0 {count}\nimage {length}\n"
@@ -152,7 +172,7 @@ def main():
     if len(sys.argv) < 2:
         print("\n".join(DOCUMENTS))
         return
-    numbers = [int(number) for number in sys.argv[2:4]]
+    numbers = [int(number) for number in sys.argv[2:5]]
     text, image = document(sys.argv[1], *numbers)
     sys.stdout.buffer.write(text)
     sys.stdout.buffer.write(image)

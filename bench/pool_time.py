@@ -17,7 +17,6 @@ import time
 
 import measure
 
-RUNS = 5
 KINDS = 300
 
 
@@ -45,7 +44,7 @@ def pools(program, folder):
     path = pathlib.Path(folder) / "input"
     for word, count in (("report", 1), ("pool", 1), ("pool", 32), ("pool", 64)):
         path.write_text("".join(machine(512, number) for number in range(count)), encoding="utf-8")
-        (found,) = measure.best([[program, word]], path, RUNS)
+        (found,) = measure.best([[program, word]], path, measure.RUNS)
         show(f"{word} of {count} machines of 512 cores", found, path.stat().st_size)
 
 

@@ -1,8 +1,9 @@
 #!/usr/bin/env python3
-"""Reading an input one byte above the limit of either format, against `cat FILE | cat`.
+"""Reading an input one byte above the limit of either format, against bench/hold.c and `cat FILE | cat`.
 
-Builds nothing: run `make` first. Prints the two times (the best of some runs each), their ratio,
-and the greatest memory that armcaps held. It is no test: it asserts nothing.
+Builds bench/hold.c, which reads all its input and writes it out (a C compiler is wanted), and no other program: run `make`
+first. Prints the times (the best of some runs each, made in turn), armcaps's against the others', and the greatest memory
+that armcaps and hold held. It is no test: it asserts nothing.
 
 usage: bench/read_limit.py [PROGRAM]
 """
@@ -11,7 +12,6 @@ import tempfile
 
 import measure
 
-RUNS = 5
 INPUTS = [("format 1", b"", 135_266_305), ("format 2", b"armcaps 2\n", 537_919_489)]
 PIECE = bytes(1 << 20)
 
@@ -30,12 +30,14 @@ def main():
         with tempfile.TemporaryDirectory() as folder:
             path = f"{folder}/input"
             write(path, begin, length)
-            ours, theirs = measure.best([[program, "report"], measure.CAT], path, RUNS)
+            commands = [[program, "report"], [measure.hold(folder)], measure.CAT]
+            ours, hold, cat = measure.best(commands, path, measure.RUNS)
         print(f"{name}         {length} bytes: status {ours.status}, {ours.told.decode().strip()}")
         print(f"armcaps report   {ours.seconds:.3f} s")
-        print(f"cat FILE | cat   {theirs.seconds:.3f} s")
-        print(f"ratio            {ours.seconds / theirs.seconds:.2f}")
-        print(f"peak memory      {ours.peak / 1048576:.1f} MiB ({ours.peak / length:.3f} times the input)")
+        print(f"hold             {hold.seconds:.3f} s, ratio {ours.seconds / hold.seconds:.2f}")
+        print(f"cat FILE | cat   {cat.seconds:.3f} s, ratio {ours.seconds / cat.seconds:.2f}")
+        for which, run in (("peak memory", ours), ("peak of hold", hold)):
+            print(f"{which:17}{run.peak / 1048576:.1f} MiB ({run.peak / length:.3f} times the input)")
 
 
 if __name__ == "__main__":
