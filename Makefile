@@ -3,7 +3,7 @@
 #   make             proves the program and builds it: some 20 minutes and up to 4 GB the first time, seconds after that
 #   make try         runs it on an example within some twenty seconds, before any proof; COMMAND and TEXT name another
 #   make test        all that can be seen without a proof, in some three minutes: tests, examples, tools and pages
-#   make check       the gate, and the checks of pages and tools after it
+#   make check       the gate; then the library, where a C compiler is there, and the checks of pages and tools
 #   make page        makes the program's page, out/armcaps.html, which shows in a browser what it says; wants wasm-opt
 #   make lib         proves and builds the library for C, libarmcaps.a and libarmcaps.so; needs a C compiler
 #   make install     copies to DESTDIR and PREFIX; make uninstall removes what it copied
