@@ -30,3 +30,14 @@ fn places_lie_within(rt: HostRuntime) {
     assert_eq!(rt; place_below(8, 0xffff_ffff_ffff_ffff, 4), None);
     assert_eq!(rt; place_within(8, 0x7fff_ffff_ffff_ffff, 255), None);
 }
+
+#[test]
+fn buckets_begin_where_the_ones_before_end(rt: HostRuntime) {
+    let mut numbers = [2, 0, 3];
+    sum_up(&mut numbers);
+    assert_eq!(rt; numbers, [0, 2, 2]);
+    let ends = [2, 2, 5];
+    assert_eq!(rt; begin_of(&ends, 0), 0);
+    assert_eq!(rt; begin_of(&ends, 2), 2);
+    assert_eq!(rt; begin_of(&ends, 3), 5);
+}
