@@ -51,7 +51,8 @@ def main():
                 tell(name, other, run, floor, size)
             for other, run in zip(programs[1:], runs[1:]):
                 print(f"{'':10}armcaps against {other}: ratio {runs[0].seconds / run.seconds:.2f}", end="")
-                print(f", peak {(runs[0].peak - run.peak) / 1048576:+.1f} MiB", flush=True)
+                print(f", peak {(runs[0].peak - run.peak) / 1048576:+.1f} MiB", end=", ")
+                print(measure.compared([program, "elf"], [other, "elf"], f"{folder}/input"), flush=True)
             (half_floor, half, *_), _ = measured(programs, hold, folder, name, 2)
             grown = (runs[0].processor - floor.processor) / (half.processor - half_floor.processor)
             print(f"{'':10}beyond hold, all against half of the entries or sections: {grown:.2f}", flush=True)

@@ -59,6 +59,18 @@ def words(program):
     return [form.split()[0] for form in usage.strip().removeprefix("armcaps: usage: armcaps ").split(" | ")]
 
 
+def compared(one, other, path):
+    """Whether two commands write the same bytes of the file, in words."""
+    sums = set()
+    for command in (one, other):
+        with open(path, "rb") as source:
+            child = subprocess.Popen(command, stdin=source, stdout=subprocess.PIPE, stderr=subprocess.DEVNULL)
+        sums.add(subprocess.run(["sha256sum"], stdin=child.stdout, capture_output=True, check=True).stdout)
+        child.stdout.close()
+        child.wait()
+    return "the same bytes" if len(sums) == 1 else "OTHER BYTES"
+
+
 def others():
     """The program that ARMCAPS_OTHER names, to be measured beside armcaps, if it names one."""
     return [os.environ["ARMCAPS_OTHER"]] if "ARMCAPS_OTHER" in os.environ else []

@@ -33,7 +33,7 @@ class Image:
     """An image of words, whose table stands first; sites and replacements begin at an eighth and in the middle."""
 
     def __init__(self, length, seed):
-        self.sites, self.replacements = length // 8, length // 2
+        self.sites, self.replacements = length // 32 * 4, length // 8 * 4
         self.length = length
         self.words = array.array("I", bytes(length))
         self.bytes = memoryview(self.words).cast("B")
@@ -159,7 +159,7 @@ DOCUMENTS = {
 def document(name, count=None, seed=1, length=None):
     """The text and the image, of the name's usual count and length where none is given."""
     fill, usual_length, usual_count = DOCUMENTS[name]
-    count, length = count or usual_count, length or usual_length
+    count, length = count or usual_count, (length or usual_length) // 4 * 4
     if 12 * count > length // 8 or 32 * count > length * 3 // 8:
         sys.exit(f"patch_documents: {count} entries do not fit into {length} bytes")
     image = Image(length, seed)

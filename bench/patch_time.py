@@ -49,7 +49,8 @@ def show(programs, hold, folder, name, count, length):
         tell(program, run, floor, size, count)
     for program, run in zip(programs[1:], runs[1:]):
         print(f"  armcaps against {program}: ratio {runs[0].seconds / run.seconds:.2f}", end="")
-        print(f", peak {(runs[0].peak - run.peak) / 1048576:+.1f} MiB", flush=True)
+        print(f", peak {(runs[0].peak - run.peak) / 1048576:+.1f} MiB", end=", ")
+        print(measure.compared([programs[0], "patch"], [program, "patch"], f"{folder}/input"), flush=True)
     if count > 100_000:
         (half_floor, half), _ = measured(programs[:1], hold, folder, name, count // 2, length)
         grown = (runs[0].processor - floor.processor) / (half.processor - half_floor.processor)
