@@ -1,11 +1,7 @@
 -- Words of instructions that can move: each is corrected, and none is refused.
-use Rattle.std.proofs.Common.{◌≡◌, ℕ, ◌+◌, ◌-◌, ◌*◌, ◌/◌, ◌%◌, ◌^◌, ◌<◌, ◌==◌, ℤ, pos, negsuc, ◌+ℤ◌, ◌-ℤ◌, ◌*ℤ◌, suc, Bool, true, false, cond, List, [], ◌∷◌, find, bit_and, Option, Some, None, Result, Ok, Err, inl, inr, refl, sym, ap, subst, ◌∙◌, arith, lit<}
-use Rattle.std.specs.List.{list_all}
-use Rattle.std.specs.Option.{option_map_or}
-use Rattle.std.proofs.lemmas.Bool.{cases_lt, eqb-true}
+use Rattle.std.proofs.Common.{◌≡◌, ℕ, ◌+◌, ◌-◌, ◌*◌, ◌/◌, ◌^◌, ◌<◌, ℤ, pos, negsuc, ◌+ℤ◌, ◌-ℤ◌, ◌*ℤ◌, suc, Bool, true, false, cond, Some, None, Result, Ok, Err, inl, inr, refl, sym, ap, subst, ◌∙◌, arith, lit<}
+use Rattle.std.proofs.lemmas.Bool.{cases_lt}
 use Rattle.std.proofs.lemmas.Int.{ints}
-use Rattle.std.proofs.lemmas.Nat.{and_block}
-use Rattle.std.specs.Int.Bits.{and_zero_r}
 use Rattle.armcaps_insn.specs.declared.correction.FixRefused.{FixRefused}
 use Rattle.armcaps_insn.specs.declared.correction.FixRefused.TheVariants as refused
 use Rattle.armcaps_insn.specs.declared.instruction_class.Class.{Class}
@@ -14,44 +10,12 @@ use Rattle.armcaps_insn.specs.Decoded.{base_of, decoded, insn_of}
 use Rattle.armcaps_insn.specs.Encodings.{class_of, encodings, nop}
 use Rattle.armcaps_insn.specs.Immediates.{immediate, immediate_of, is_in_range, offset_in, rest_in, with_offset}
 use Rattle.armcaps_insn.specs.Moved.{corrected, corrected_by, is_inside, offset_to, relocated}
+use Rattle.armcaps_insn.proofs.HighBytes.{class_high}
 use Rattle.armcaps_insn.proofs.Moves.{new_decoded, new_fits}
-use Rattle.std.proofs.lemmas.Bool.{and_parts}
 
 -- a word is corrected
 abbrev pub IsCorrected : Result ℕ FixRefused → Type 0
 IsCorrected result = (word : ℕ) × (result ≡ Ok word)
-
-masked_high : (high low mask : ℕ) → low < 2 ^ 24 → mask % 2 ^ 24 ≡ 0 → bit_and (high * 2 ^ 24 + low) mask ≡ bit_and (high * 2 ^ 24) mask
-masked_high high low mask small none =
-    let mask_is : mask ≡ mask / 2 ^ 24 * 2 ^ 24 + 0 = omega (arith, none) in
-    let alone : high * 2 ^ 24 + 0 ≡ high * 2 ^ 24 = omega arith in
-    let with_low = and_block 24 high (mask / 2 ^ 24) low 0 small (lit< tt) in
-    let without = and_block 24 high (mask / 2 ^ 24) 0 0 (lit< tt) (lit< tt) in
-    let nothing : bit_and low 0 ≡ bit_and 0 0 = and_zero_r low ∙ sym (and_zero_r 0) in
-    ap (bit_and (high * 2 ^ 24 + low)) mask_is ∙ with_low ∙ ap (λ (n : ℕ). bit_and high (mask / 2 ^ 24) * 2 ^ 24 + n) nothing ∙ sym without
-    ∙ ap (λ (n : ℕ). bit_and n (mask / 2 ^ 24 * 2 ^ 24 + 0)) alone ∙ ap (bit_and (high * 2 ^ 24)) (sym mask_is)
-
--- what a word is found to be by masks of the high byte is the same whatever the other bits are
-found_same : {X : Type 0} (kinds : List X) (mask value : X → ℕ) (high low : ℕ) → low < 2 ^ 24 → list_all (λ kind. mask kind % 2 ^ 24 == 0) kinds ≡ true
-    → find (λ kind. bit_and (high * 2 ^ 24 + low) (mask kind) == value kind) kinds ≡ find (λ kind. bit_and (high * 2 ^ 24) (mask kind) == value kind) kinds
-found_same [] mask value high low small h = refl
-found_same {X} (kind ∷ kinds) mask value high low small h =
-    let none : mask kind % 2 ^ 24 ≡ 0 = eqb-true _ _ (and_parts _ _ h).0 in
-    let here : (bit_and (high * 2 ^ 24 + low) (mask kind) == value kind) ≡ (bit_and (high * 2 ^ 24) (mask kind) == value kind) = ap (λ (n : ℕ). n == value kind) (masked_high high low (mask kind) small none) in
-    let more = found_same kinds mask value high low small (and_parts _ _ h).1 in
-    rw here (ap (λ (found : Option X). cond (bit_and (high * 2 ^ 24) (mask kind) == value kind) (Some kind) found) more)
-
-class_same : {X : Type 0} (one other : Option X) (class : X → Class) → one ≡ other → option_map_or class one Other ≡ option_map_or class other Other
-class_same one other class h = ap (λ found. option_map_or class found Other) h
-
-masks_are_high : list_all (λ kind. kind.mask % 2 ^ 24 == 0) encodings ≡ true
-unfolding encodings
-masks_are_high = refl
-
--- the class of a word is that of its high byte
-class_high : (high low : ℕ) → low < 2 ^ 24 → class_of (high * 2 ^ 24 + low) ≡ class_of (high * 2 ^ 24)
-unfolding class_of
-class_high high low small = class_same _ _ (λ kind. kind.class) (found_same encodings (λ kind. kind.mask) (λ kind. kind.value) high low small masks_are_high)
 
 move_class : class_of (0x52 * 2 ^ 24) ≡ Other
 unfolding class_of encodings

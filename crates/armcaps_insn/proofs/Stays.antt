@@ -6,9 +6,8 @@ use Rattle.std.proofs.lemmas.Bool.{and_parts, cases_Bool, eqb-true, false_from_n
 use Rattle.std.proofs.lemmas.Nat.{and_assoc, and_comm}
 use Rattle.armcaps_logic.proofs.Options.{option_cases}
 use Rattle.armcaps_logic.proofs.Searches.{find_holds, find_passes}
-use Rattle.armcaps_insn.specs.declared.encodings.Encoding.{Encoding}
 use Rattle.armcaps_insn.specs.declared.immediates.Immediate.{Immediate}
-use Rattle.armcaps_insn.specs.Encodings.{class_of, encodings, is_encoded}
+use Rattle.armcaps_insn.specs.Encodings.{Encoding, class_of, encodings, is_encoded}
 use Rattle.armcaps_insn.specs.Immediates.{immediate_of}
 
 -- no word is of both kinds: where both masks have a bit, the values differ

@@ -3,9 +3,13 @@ use Rattle.std.specs.Prelude.{◌==◌, ℕ, List, [], ◌∷◌, Bool, bit_and,
 use Rattle.std.specs.Option.{option_map_or}
 use Rattle.armcaps_insn.specs.declared.instruction_class.Class.{Class}
 use Rattle.armcaps_insn.specs.declared.instruction_class.Class.TheVariants.{Jump26, Jump19, Jump14, Page, Literal, Other}
-use Rattle.armcaps_insn.specs.declared.encodings.Encoding.{Encoding}
 
--- the words that have `value` in the bits of `mask`
+-- words of one class: those that have `value` in the bits of `mask`
+pub record Encoding : Type 0 where
+  pub mask : ℕ
+  pub value : ℕ
+  pub class : Class
+
 abbrev encoding : ℕ → ℕ → Class → Encoding
 encoding mask value class = record { mask = mask; value = value; class = class }
 

@@ -2,7 +2,7 @@
 use Rattle.std.proofs.Common.{◌-ℤ◌, pos, refl, sym}
 use Rattle.armcaps_insn.proofs.Codes.{offset_code, rest_code}
 use Rattle.armcaps_insn.proofs.Moves.{branch_is}
-use Rattle.armcaps_insn.proofs.branch.branch_word.Goals as goal
+use Rattle.armcaps_insn.proofs.branch_to.branch_word.Goals as goal
 
 pub returns-then-reaches-clause-branch : goal.returns-then-reaches-clause-branch
 returns-then-reaches-clause-branch c =
