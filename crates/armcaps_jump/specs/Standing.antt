@@ -2,9 +2,10 @@
 -- an image and its table is proved to be `jump_image`.
 use Rattle.std.specs.Prelude.{◌≡◌, ◌+◌, ◌*◌, ◌/◌, ◌%◌, ◌^◌, ◌<◌, ◌≤◌, ℕ, List, None, length, min, slice_index}
 use Rattle.std.specs.List.{All}
+use Rattle.armcaps_image.specs.Buckets.{begin_of}
 use Rattle.armcaps_image.specs.Last.{last_that}
 use Rattle.armcaps_jump.specs.declared.site.Site.{Site}
-use Rattle.armcaps_jump.specs.Grouping.{begin_of, sites_in}
+use Rattle.armcaps_jump.specs.Grouping.{sites_in}
 use Rattle.armcaps_jump.specs.Jumped.{has_byte, sites_of}
 use Rattle.armcaps_jump.specs.Refusals.{first_refusal}
 
