@@ -1,5 +1,7 @@
 -- The errata that are worked around, in the order of their capabilities' numbers. Which are listed, and their ranges,
--- are this project's profile after Linux, arch/arm64/kernel/cpu_errata.c, and Arm's Software Developers Errata Notices.
+-- are this project's profile after Linux 6.6, and no list of Arm's notices. A line can be held against Linux,
+-- arch/arm64/kernel/cpu_errata.c, the entry of `arm64_errata` with the same capability, and against Arm's Software
+-- Developer Errata Notice of the product; both have more errata, and Linux's lists more processors.
 -- A line has the capability's number, the processors from a first version to a last one, and the fixes. A version rXpY
 -- is 0xXY.
 use Rattle.std.specs.Prelude.{ℕ, List, [], ◌∷◌}
