@@ -1,4 +1,4 @@
-ghost use Rattle.std.specs.Prelude.{◌≡◌, IfOk, ◌<◌, ◌^◌, ◌+ℤ◌, ◌≤ℤ◌, neg_ℤ, pos};
+ghost use Rattle.std.specs.Prelude.{◌≡◌, IfOk, ◌<◌, ◌≤◌, ◌^◌, ◌+ℤ◌, ◌≤ℤ◌, neg_ℤ, pos};
 ghost use Rattle.armcaps_insn.specs.Decoded.{base_of};
 ghost use Rattle.armcaps_insn.specs.Moved.{IsMove, StaysOrMoves, corrected, is_inside, offset_to};
 
@@ -66,15 +66,17 @@ impl Class {
         target - self.base(place)
     }
 
-    // Whether a jump's target is in a sequence, its end included.
+    // Whether a jump's target is in a sequence, its end included. In one comparison: on which side of the sequence a
+    // target lies can't be foretold, and it isn't asked.
     fn jumps_inside(self, target: i64, low: u64, high: u64) -> bool
         requires low { low < 2 ^ 40 }
         requires high { high < 2 ^ 40 }
+        requires order { low ≤ high }
         ensures { result ≡ is_inside self target low high }
     {
         match self {
-            Class::Jump26 | Class::Jump19 | Class::Jump14 => low as i64 <= target
-                && target <= high as i64,
+            Class::Jump26 | Class::Jump19 | Class::Jump14 => target
+                == target.max(low as i64).min(high as i64),
             Class::Page | Class::Literal | Class::Other => false,
         }
     }

@@ -19,19 +19,33 @@ pub(crate) struct Immediate {
 // Where the low bits of ADRP's offset lie (Arm ARM DDI 0487, `immlo`).
 const LOW_SHIFT: u32 = 29;
 
+// Lines of the table: mask, shift, width, low_width, scale.
+macro_rules! lies {
+    ($mask:literal $shift:literal $width:literal $low_width:literal $scale:literal) => {
+        Immediate { mask: $mask, shift: $shift, width: $width, low_width: $low_width, scale: $scale }
+    };
+}
+
+// Where the offset of B and BL lies.
+const JUMP26: Immediate = lies!(0x03ff_ffff 0 26 0 2);
+
+// Where the offset of each class lies, if it has one, in the order of the classes.
+static IMMEDIATES: [Option<Immediate>; 6] = [
+    Some(JUMP26),
+    Some(lies!(0x00ff_ffe0 5 19 0 2)),
+    Some(lies!(0x0007_ffe0 5 14 0 2)),
+    Some(lies!(0x60ff_ffe0 5 19 2 12)),
+    None,
+    None,
+];
+
 impl Class {
     // Where the offset lies, if the class has one.
     pub(crate) fn immediate(self) -> Option<Immediate>
         ensures value { result ≡ immediate_of self }
         ensures holds { IfSome result IsImmediate }
     {
-        match self {
-            Class::Jump26 => Some(jump26()),
-            Class::Jump19 => Some(lies(0x00ff_ffe0, 5, 19, 0, 2)),
-            Class::Jump14 => Some(lies(0x0007_ffe0, 5, 14, 0, 2)),
-            Class::Page => Some(lies(0x60ff_ffe0, 5, 19, 2, 12)),
-            Class::Literal | Class::Other => None,
-        }
+        IMMEDIATES[self as usize]
     }
 }
 
@@ -40,20 +54,7 @@ pub(crate) fn jump26() -> Immediate
     ensures value { result ≡ immediate 0x03ffffff 0 26 0 2 }
     ensures holds { IsImmediate result }
 {
-    lies(0x03ff_ffff, 0, 26, 0, 2)
-}
-
-// Where an offset lies, of its parts.
-fn lies(mask: u32, shift: u32, width: u32, low_width: u32, scale: u32) -> Immediate
-    ensures { result ≡ record { mask = mask; shift = shift; width = width; low_width = low_width; scale = scale } }
-{
-    Immediate {
-        mask,
-        shift,
-        width,
-        low_width,
-        scale,
-    }
+    JUMP26
 }
 
 impl Immediate {
