@@ -1,5 +1,5 @@
 -- Each word of a generated replacement can move, and has 32 bits.
-use Rattle.std.proofs.Common.{◌≡◌, ℕ, ◌+◌, ◌-◌, ◌*◌, ◌/◌, ◌%◌, ◌^◌, ◌<◌, pos, ◌-ℤ◌, arith, lit<}
+use Rattle.std.proofs.Common.{◌≡◌, ℕ, ◌+◌, ◌*◌, ◌/◌, ◌%◌, ◌^◌, ◌<◌, pos, ◌-ℤ◌, arith, lit<}
 use Rattle.std.proofs.lemmas.Nat.{mod_below}
 use Rattle.armcaps_insn.specs.Encodings.{nop}
 use Rattle.armcaps_insn.specs.Immediates.{immediate, with_offset}

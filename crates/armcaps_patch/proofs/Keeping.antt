@@ -1,5 +1,5 @@
 -- What is kept of the entries of a table, one after the other.
-use Rattle.std.proofs.Common.{◌≡◌, ◌+◌, ◌<◌, ◌≤◌, ◌∷◌, ◌++◌, ℕ, Bool, List, [], Option, None, Some, IfSome, ap, append-nil, arith, cond, drop, get_or, length, length-append, map, refl, replicate, subst, sym, take, zero-add, ◌∙◌, inl, inr}
+use Rattle.std.proofs.Common.{◌≡◌, ◌+◌, ◌≤◌, ◌∷◌, ◌++◌, ℕ, Bool, List, [], Option, None, Some, IfSome, ap, append-nil, arith, cond, drop, get_or, length, length-append, map, refl, replicate, subst, sym, take, zero-add, ◌∙◌, inl, inr}
 use Rattle.std.specs.List.{All, filter, range_with_len}
 use Rattle.std.specs.Option.{option_to_list}
 use Rattle.std.proofs.lemmas.Bool.{cases_Bool}

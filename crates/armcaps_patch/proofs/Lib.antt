@@ -1,5 +1,6 @@
 -- Lemmas, by subject.
 pub mod Addresses
+pub mod Grouped
 pub mod Keeping
 pub mod Moving
 pub mod Planned

@@ -1,5 +1,5 @@
 -- The bytes of a planned image, word by word.
-use Rattle.std.proofs.Common.{◌≡◌, ◌+◌, ◌-◌, ◌*◌, ◌/◌, ◌%◌, ◌<◌, ◌≤◌, ◌∷◌, ℕ, Bool, List, None, Some, [], arith, false, get_or, length, refl, suc, true}
+use Rattle.std.proofs.Common.{◌≡◌, ◌+◌, ◌-◌, ◌*◌, ◌/◌, ◌%◌, ◌<◌, ◌≤◌, ℕ, List, None, Some, arith, false, get_or, length, refl, true}
 use Rattle.std.specs.List.{All, slice_index}
 use Rattle.std.proofs.lemmas.Bool.Decides.{nat_tests}
 use Rattle.armcaps_image.specs.Bytes.{byte_of}

@@ -1,20 +1,19 @@
 -- The greatest stamp on a place names the last entry that covers it.
-use Rattle.std.proofs.Common.{◌≡◌, ◌^◌, ◌%◌, ◌*◌, ◌/◌, ◌+◌, ◌<◌, ◌≤◌, ◌∷◌, ◌++◌, ℕ, Bool, List, MatchOption, None, Option, Some, [], arith, ap, cond, max, refl, suc, sym, true, zero, inl, inr, ◌∙◌, subst}
+use Rattle.std.proofs.Common.{◌≡◌, false, sym, true, zero, inl, inr, ◌^◌, ◌%◌, ◌*◌, ◌/◌, ◌+◌, ◌<◌, ◌≤◌, ◌∷◌, ◌++◌, ℕ, Bool, List, MatchOption, None, Option, Some, [], arith, ap, cond, max, min, refl, suc, ◌∙◌, subst}
 use Rattle.std.specs.List.{All, slice_get}
 use Rattle.std.proofs.Common.{drop, get_or, length, take, ◌-◌}
 use Rattle.std.proofs.lemmas.Option.{get_or_from_slice_get, slice_get_within}
-use Rattle.std.proofs.lemmas.List.{get_or-drop, get_or-take, length-drop, length-take, take-append-drop, take_more}
-use Rattle.std.proofs.lemmas.Bool.Decides.{nat_tests}
-use Rattle.std.specs.List.Sorted.{IsPermutation}
-use Rattle.std.proofs.lemmas.Bool.{cases_Bool}
-use Rattle.std.proofs.lemmas.List.Sorted.{All-permutation, IsPermutation-sym}
+use Rattle.std.proofs.Math.Seq.{take-add}
+use Rattle.std.proofs.lemmas.List.{get_or-map, length-map, map-append, take_all, take_more}
+use Rattle.std.proofs.lemmas.Bool.{cases_Bool, cases_lt}
 use Rattle.armcaps_patch.specs.declared.site.Site.{Site}
 use Rattle.armcaps_patch.specs.Index.{IsSite, Tells, last_at, stamp_at}
 use Rattle.armcaps_logic.proofs.Options.{option_cases}
 use Rattle.armcaps_image.specs.Last.{last_that}
 use Rattle.armcaps_image.proofs.Last.{last_that-passes}
 use Rattle.armcaps_patch.specs.declared.kept.Kept.{Kept}
-use Rattle.armcaps_patch.specs.Kept.{IsKept, IsPlan, kept_covers, site_of, sites_of}
+use Rattle.armcaps_patch.specs.Buckets.{no_entry, site_at, site_of, sites_at}
+use Rattle.armcaps_patch.specs.Kept.{kept_covers}
 
 -- no stamp is above the greatest
 stamp_below : (place : ℕ) (sites : List Site) (bound : ℕ) → last_at place sites ≤ bound → (k : ℕ) (d : Site) → k < length sites → stamp_at (get_or sites k d) place ≤ bound
@@ -32,12 +31,10 @@ last_below place (site ∷ sites) bound all =
     let rest = last_below place sites bound (λ k d within. all (suc k) d (omega arith)) in
     omega arith
 
--- the order of the sites does not matter
-pub last_at-IsPermutation : (place : ℕ) (xs ys : List Site) → IsPermutation xs ys → last_at place xs ≡ last_at place ys
-last_at-IsPermutation place xs ys same =
-    let first = last_below place ys (last_at place xs) (All-permutation (λ site. stamp_at site place ≤ last_at place xs) xs ys same (stamps_below place xs (last_at place xs) (omega arith))) in
-    let second = last_below place xs (last_at place ys) (All-permutation (λ site. stamp_at site place ≤ last_at place ys) ys xs (IsPermutation-sym xs ys same) (stamps_below place ys (last_at place ys) (omega arith))) in
-    omega arith
+-- the sites of kept entries, numbered from n on
+abbrev sites_of : ℕ → List Kept → List Site
+sites_of n [] = []
+sites_of n (kept ∷ rest) = site_of n kept ∷ sites_of (n + 1) rest
 
 module _ (place : ℕ) where
   abbrev test : Kept → Bool
@@ -53,7 +50,7 @@ module _ (place : ℕ) where
   ]
   tells_more n stamp x xs (Some y) later_is (k, found) = rw later_is (suc k, (elim (cases_Bool (test x)) [ inl here ↦ rw here (omega (arith, found.0)) | inr past ↦ rw past (omega (arith, found.0)) ], found.1))
 
-  pub last_tells : (n : ℕ) (xs : List Kept) → ((k : ℕ) (d : Kept) → k < length xs → (get_or xs k d).len % 4 ≡ 0) → Tells test (last_at place (sites_of n xs)) n xs
+  last_tells : (n : ℕ) (xs : List Kept) → ((k : ℕ) (d : Kept) → k < length xs → (get_or xs k d).len % 4 ≡ 0) → Tells test (last_at place (sites_of n xs)) n xs
   last_tells n [] aligned = refl
   last_tells n (x ∷ xs) aligned = rw (stamp_is n x (aligned 0 x (omega arith))) (tells_more n (last_at place (sites_of (n + 1) xs)) x xs (last_that test xs) refl (last_tells (n + 1) xs (λ k d within. aligned (suc k) d (omega arith))))
 
@@ -68,50 +65,80 @@ last_at_more place sites i d within =
     let e = last_at-append place (take i sites) (get_or sites i d ∷ []) in
     rw (take_more sites i d within) (omega (arith, e))
 
--- sites that leave no stamp
-pub last_at-none : (place : ℕ) (sites : List Site) → ((k : ℕ) (d : Site) → k < length sites → stamp_at (get_or sites k d) place ≡ 0) → last_at place sites ≡ 0
-last_at-none place sites none =
-    let most = last_below place sites 0 (λ k d within. let zero_here = none k d within in omega arith) in
-    omega arith
+length-sites_of : (n : ℕ) (xs : List Kept) → length (sites_of n xs) ≡ length xs
+length-sites_of n [] = refl
+length-sites_of n (x ∷ xs) = omega (arith, length-sites_of (n + 1) xs)
 
--- the index names the last kept entry that covers a place
-pub index_tells : (place size : ℕ) (kept : List Kept) (index : List Site) → IsPlan size kept index → Tells (kept_covers place) (last_at place index) 0 kept
-index_tells place size kept index is =
-    rw (← last_at-IsPermutation place (sites_of 0 kept) index is.sites) (last_tells place 0 kept (λ k d within. (is.each k d within).len_aligned))
+site_in : (n : ℕ) (xs : List Kept) (k : ℕ) (d : Site) (e : Kept) → k < length xs → get_or (sites_of n xs) k d ≡ site_of (n + k) (get_or xs k e)
+site_in n [] k d e within = absurd (omega arith)
+site_in n (x ∷ xs) zero d e within = (let same : n + 0 ≡ n = omega arith in rw same refl)
+site_in n (x ∷ xs) (suc k) d e within = (let same : n + 1 + k ≡ n + suc k = omega arith in site_in (n + 1) xs k d e (omega arith) ∙ ap (λ number. site_of number (get_or xs k e)) same)
+
+numbered : (xs : List Kept) (k : ℕ) (d : Site) (e : Kept) → k < length xs → get_or (sites_of 0 xs) k d ≡ site_of k (get_or xs k e)
+numbered xs k d e within = (let same : 0 + k ≡ k = omega arith in site_in 0 xs k d e within ∙ ap (λ number. site_of number (get_or xs k e)) same)
+
+-- a stamp that is not 0 is that of a site that covers the place
+stamp_covers : (place number : ℕ) (kept : Kept) → kept.len % 4 ≡ 0 → kept_covers place kept ≡ false → stamp_at (site_of number kept) place ≡ 0
+stamp_covers place number kept aligned past = stamp_is place number kept aligned ∙ ap (λ b. cond b (number + 1) 0) past
+
+-- the stamps of some numbers and of the next ones
+last_at-parts : (place : ℕ) (kept : List Kept) (xs ys : List ℕ) → last_at place (sites_at kept (xs ++ ys)) ≡ max (last_at place (sites_at kept xs)) (last_at place (sites_at kept ys))
+last_at-parts place kept xs ys = ap (last_at place) (map-append (site_at kept) xs ys) ∙ last_at-append place (sites_at kept xs) (sites_at kept ys)
+
+-- the first numbers, up to so many more or to the end of all
+first_more : (xs : List ℕ) (n more : ℕ) → n ≤ length xs → take n xs ++ take (min (length xs) (n + more) - n) (drop n xs) ≡ take (n + more) xs
+first_more xs n more within =
+    let some : ℕ = min (length xs) (n + more) - n in
+    sym (take-add n some xs) ∙ elim (cases_lt (length xs) (n + more)) [
+      | inl short ↦ take_all (n + some) xs (omega arith) ∙ sym (take_all (n + more) xs (omega arith))
+      | inr long ↦ (let all : n + some ≡ n + more = omega arith in ap (λ m. take m xs) all)
+    ]
+
+pub last_at-first : (place : ℕ) (kept : List Kept) (numbers : List ℕ) (n more : ℕ) → n ≤ length numbers
+    → last_at place (sites_at kept (take (n + more) numbers)) ≡ max (last_at place (sites_at kept (take n numbers))) (last_at place (sites_at kept (take (min (length numbers) (n + more) - n) (drop n numbers))))
+last_at-first place kept numbers n more within =
+    ap (λ xs. last_at place (sites_at kept xs)) (sym (first_more numbers n more within)) ∙ last_at-parts place kept (take n numbers) (take (min (length numbers) (n + more) - n) (drop n numbers))
 
 -- each site is one
-sites_are : (size n : ℕ) (kept : List Kept) → size ≤ 2 ^ 29 → n + length kept ≤ 2 ^ 26 → All (IsKept size) kept → (k : ℕ) (d : Site) → k < length (sites_of n kept) → IsSite (get_or (sites_of n kept) k d)
-sites_are size n [] small few each k d within = absurd (omega arith)
-sites_are size n (x ∷ xs) small few each zero d within =
-    let is = each 0 x (omega arith) in
-    record { aligned = is.site_aligned; below = (let site = is.site_within in omega arith); few = omega arith; words = (let short = is.short in omega arith) }
-sites_are size n (x ∷ xs) small few each (suc k) d within = sites_are size (n + 1) xs small (omega arith) (λ j e inside. each (suc j) e (omega arith)) k d (omega arith)
+pub sites_are : (kept : List Kept) (numbers : List ℕ) → length kept ≤ 2 ^ 26 → All (λ entry. IsSite (site_of 0 entry)) kept → All (λ number. number < length kept) numbers → All IsSite (sites_at kept numbers)
+sites_are kept numbers few each known = λ k d within.
+    let all = length-map numbers (site_at kept) in
+    let number : ℕ = get_or numbers k 0 in
+    let inside : number < length kept = known k 0 (omega (arith, all)) in
+    let here : get_or (sites_at kept numbers) k d ≡ site_at kept number = get_or-map (site_at kept) numbers k 0 d (omega (arith, all)) in
+    let is = each number no_entry inside in
+    let it : IsSite (site_at kept number) = record { aligned = is.aligned; below = is.below; few = omega (arith, few, inside); words = is.words } in
+    subst (λ (site : Site). IsSite site) (sym here) it
 
-pub index_sites : (size : ℕ) (kept : List Kept) (index : List Site) → IsPlan size kept index → All IsSite index
-index_sites size kept index is = All-permutation IsSite (sites_of 0 kept) index is.sites (sites_are size 0 kept is.small (let few = is.few in omega arith) is.each)
-
--- the sites between two places of a list, where those before end below the place and those behind begin above it
-pub last_between : (place from : ℕ) (sites : List Site) (a b to : ℕ) → All IsSite sites → from ≤ place → place < to → a ≤ length sites → b ≤ length (drop a sites)
-    → ((k : ℕ) (d : Site) → k < a → (get_or sites k d).place < from - 251) → ((k : ℕ) (d : Site) → b ≤ k → k < length (drop a sites) → to ≤ (get_or (drop a sites) k d).place)
-    → last_at place (take b (drop a sites)) ≡ last_at place sites
-last_between place from sites a b to each low high a_in b_in before behind =
-    let rest : List Site = drop a sites in
-    let front : last_at place (take a sites) ≡ 0 = last_at-none place (take a sites) (λ k d within.
-    let short : k < a = omega (arith, length-take a sites) in
-    let here : get_or (take a sites) k d ≡ get_or sites k d = get_or-take a sites k d short in
-    let words : (get_or sites k d).words ≤ 63 = (each k d (omega arith)).words in
-    let below = before k d short in
-    rw here (grind (arith, nat_tests))) in
-    let back : last_at place (drop b rest) ≡ 0 = last_at-none place (drop b rest) (λ k d within.
-    let inside : b + k < length rest = omega (arith, length-drop b rest) in
-    let here : get_or (drop b rest) k d ≡ get_or rest (b + k) d = get_or-drop b rest k d in
-    let above = behind (b + k) d (omega arith) inside in
-    rw here (grind (arith, nat_tests))) in
-    let parts = last_at-append place (take a sites) rest in
-    let more = last_at-append place (take b rest) (drop b rest) in
-    let whole : last_at place (take a sites ++ rest) ≡ last_at place sites = ap (last_at place) (take-append-drop a sites) in
-    let whole_rest : last_at place (take b rest ++ drop b rest) ≡ last_at place rest = ap (last_at place) (take-append-drop b rest) in
-    omega (arith, front, back, parts, more, whole, whole_rest)
+-- numbers among which are those of all entries that cover a place tell the last of them
+pub some_tell : (place : ℕ) (kept : List Kept) (numbers : List ℕ) → All (λ entry. entry.len % 4 ≡ 0) kept → All (λ number. number < length kept) numbers
+    → ((number : ℕ) → number < length kept → kept_covers place (get_or kept number no_entry) ≡ true → (index : ℕ) × ((index < length numbers) × (get_or numbers index 0 ≡ number)))
+    → Tells (kept_covers place) (last_at place (sites_at kept numbers)) 0 kept
+some_tell place kept numbers aligned known each =
+    let all : List Site = sites_of 0 kept in
+    let some : List Site = sites_at kept numbers in
+    let many = length-sites_of 0 kept in
+    let few : length some ≡ length numbers = length-map numbers (site_at kept) in
+    let below : last_at place some ≤ last_at place all = last_below place some (last_at place all) (λ k d within.
+    let number = get_or numbers k 0 in
+    let inside : number < length kept = known k 0 (omega (arith, few)) in
+    let here : get_or some k d ≡ site_of number (get_or kept number no_entry) = get_or-map (site_at kept) numbers k 0 d (omega (arith, few)) in
+    let there : get_or all number d ≡ site_of number (get_or kept number no_entry) = numbered kept number d no_entry inside in
+    let least = stamp_below place all (last_at place all) (omega arith) number d (omega (arith, many)) in
+    subst (λ (site : Site). stamp_at site place ≤ last_at place all) (there ∙ sym here) least) in
+    let above : last_at place all ≤ last_at place some = last_below place all (last_at place some) (λ k d within.
+    let inside : k < length kept = omega (arith, many) in
+    let here : get_or all k d ≡ site_of k (get_or kept k no_entry) = numbered kept k d no_entry inside in
+    elim (cases_Bool (kept_covers place (get_or kept k no_entry))) [
+      | inl covers ↦
+          let found = each k inside covers in
+          let there : get_or some found.0 d ≡ site_of k (get_or kept k no_entry) = get_or-map (site_at kept) numbers found.0 0 d found.1.0 ∙ ap (site_at kept) found.1.1 in
+          let least = stamp_below place some (last_at place some) (omega arith) found.0 d (omega (arith, few, found.1.0)) in
+          subst (λ (site : Site). stamp_at site place ≤ last_at place some) (there ∙ sym here) least
+      | inr past ↦ (let none = stamp_covers place k (get_or kept k no_entry) (aligned k no_entry inside) past in rw here (omega (arith, none)))
+    ]) in
+    let same : last_at place all ≡ last_at place some = omega (arith, below, above) in
+    subst (λ (stamp : ℕ). Tells (kept_covers place) stamp 0 kept) same (last_tells place 0 kept aligned)
 
 -- the item before a stamp's number is the last that passes
 pub stamped : {X : Type 0} (test : X → Bool) (stamp number : ℕ) (xs : List X) (d : X) → Tells test stamp 0 xs → stamp ≡ suc number → (last_that test xs ≡ Some (get_or xs number d)) × (test (get_or xs number d) ≡ true) × (number < length xs)

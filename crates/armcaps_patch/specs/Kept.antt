@@ -1,8 +1,7 @@
 -- What a plan keeps of the selected entries, and what it makes of them. Of this file `StandsFor` has to be believed,
 -- with `Planned` and `kept_of`: what a plan makes of an image is proved to be the patched image of armcaps_alt.
-use Rattle.std.specs.Prelude.{◌≡◌, ◌+◌, ◌-◌, ◌*◌, ◌/◌, ◌%◌, ◌^◌, ◌≤◌, ◌<◌, ◌&&◌, ℕ, Bool, List, [], ◌∷◌, Option, Some, None, Result, if◌then◌else◌, length, map, nat_le, nat_lt, slice_index, unwrap_or}
+use Rattle.std.specs.Prelude.{◌≡◌, ◌+◌, ◌-◌, ◌*◌, ◌/◌, ◌%◌, ◌^◌, ◌≤◌, ◌<◌, ◌&&◌, ℕ, Bool, List, Option, Some, None, Result, if◌then◌else◌, length, map, nat_le, nat_lt, slice_index, unwrap_or}
 use Rattle.std.specs.List.{All, range_with_len}
-use Rattle.std.specs.List.Sorted.{IsNonDecreasingBy, IsPermutation}
 use Rattle.std.specs.Option.{option_map_or}
 use Rattle.armcaps_insn.specs.declared.correction.FixRefused.{FixRefused}
 use Rattle.armcaps_insn.specs.Moved.{corrected}
@@ -19,7 +18,6 @@ use Rattle.armcaps_alt.specs.Names.{NameLists, callback_named}
 use Rattle.armcaps_alt.specs.Refusals.{first_refusal}
 use Rattle.armcaps_alt.specs.Words.{IsIndex, callback_word_of, ok_or_word}
 use Rattle.armcaps_patch.specs.declared.kept.Kept.{Kept}
-use Rattle.armcaps_patch.specs.declared.site.Site.{Site}
 
 -- what is kept of an entry: the place of its site and its length, and the place of its replacement or its callback; a
 -- callback that isn't named, which an entry that is not refused hasn't, keeps the words
@@ -104,23 +102,6 @@ pub record IsPiece (image : List ℕ) (kept : List Kept) (from count : ℕ) : Ty
   pub each : All (IsKept (length image)) kept
   pub aligned : from % 4 ≡ 0
   pub within : from + count ≤ length image
-
--- the site of a kept entry, with the entry's number
-abbrev pub site_of : ℕ → Kept → Site
-site_of number kept = record { place = kept.site; words = kept.len / 4; number = number }
-
--- the sites of kept entries, numbered from n on
-abbrev pub sites_of : ℕ → List Kept → List Site
-sites_of n [] = []
-sites_of n (kept ∷ rest) = site_of n kept ∷ sites_of (n + 1) rest
-
--- a plan's index has the sites of what it keeps, by rising place
-pub record IsPlan (size : ℕ) (kept : List Kept) (index : List Site) : Type 0 where
-  pub small : size ≤ 2 ^ 29
-  pub each : All (IsKept size) kept
-  pub few : length kept ≤ 2 ^ 26
-  pub sites : IsPermutation (sites_of 0 kept) index
-  pub sorted : IsNonDecreasingBy (λ site. site.place) index
 
 -- a plan stands for an image and its table: no entry is refused, and it keeps the selected ones
 pub record StandsFor (plan : Planned) (features : Features) (image : List ℕ) (layout : Layout) : Type 0 where

@@ -4,5 +4,6 @@ pub mod Features
 pub mod Choices
 pub mod Index
 pub mod Kept
+pub mod Buckets
 pub mod Accepting
 pub mod Counting

@@ -8,10 +8,10 @@ ghost use Rattle.armcaps_patch.specs.Accepting.{IsPlaced, KeepsOrRefuses};
 ghost use Rattle.armcaps_patch.specs.Kept.{IsKept, kept_of};
 
 use crate::kept::Kept;
-use crate::words::{moved, takes_address, takes_addresses};
+use crate::words::{moved, takes_addresses};
 use armcaps_alt::{CallbackKind, Entry, Names, PatchKind};
 use armcaps_image::{place_within, word};
-use armcaps_insn::FixRefused;
+use armcaps_insn::{FixRefused, takes_address};
 
 // What is kept of a selected entry, or the least kind that holds of it.
 pub(crate) fn accept(entry: &Entry, image: &[u8], names: &Names) -> Result<Kept, PatchKind>

@@ -3,6 +3,7 @@
 #![tactic(auto)]
 
 mod accepting;
+mod buckets;
 mod checking;
 mod choice;
 mod choosing;

@@ -1,30 +1,20 @@
-//! The sites that can cover places of a piece.
+//! The numbers in neighbouring buckets.
 
-ghost use Rattle.std.specs.Prelude.{◌≡◌, ◌<◌, ◌≤◌, ◌^◌, ℕ, length};
-ghost use Rattle.std.specs.List.{All};
-ghost use Rattle.std.specs.List.Sorted.{IsNonDecreasingBy, IsPartitionPoint};
-ghost use Rattle.armcaps_patch.specs.Index.{IsSite, last_at};
+ghost use Rattle.std.specs.Prelude.{◌≡◌, ◌<◌, ◌≤◌, length, slice_index};
+ghost use Rattle.armcaps_image.specs.Buckets.{begin_of};
+ghost use Rattle.armcaps_patch.specs.Buckets.{numbers_in};
 
-use crate::site::Site;
+use crate::buckets::Buckets;
+use armcaps_image::begin_of;
 
-// The sites that can cover places from one on to another: none that covers one is left out. A site has at most 252
-// bytes.
-pub(crate) fn near(sites: &[Site], from: u32, to: u32) -> &[Site]
-    requires sorted { IsNonDecreasingBy (λ site. site.place) sites.now }
-    requires sites { All IsSite sites.now }
-    ensures last { (place : ℕ) → from ≤ place → place < to → last_at place result.now ≡ last_at place sites.now }
-    ensures sites { All IsSite result.now }
+// The numbers in the buckets from one to another, both included.
+pub(crate) fn numbers_in(buckets: &Buckets, first: usize, last: usize) -> &[u32]
+    requires first { first < length buckets.now.ends.items }
+    requires last { last < length buckets.now.ends.items }
+    requires order { begin_of buckets.now.ends.items first ≤ slice_index buckets.now.ends.items last }
+    requires within { slice_index buckets.now.ends.items last ≤ length buckets.now.numbers.items }
+    ensures { result.now ≡ numbers_in buckets.now.numbers.items buckets.now.ends.items first last }
 {
-    let (_, rest) = sites.split_at(count_below(sites, from.saturating_sub(251)));
-    let (nearby, _) = rest.split_at(count_below(rest, to));
-    nearby
-}
-
-// How many sites begin below a place.
-fn count_below(sites: &[Site], place: u32) -> usize
-    requires sorted { IsNonDecreasingBy (λ site. site.place) sites.now }
-    ensures within { result ≤ length sites.now }
-    ensures parted { IsPartitionPoint (λ site. site.place < place) (λ site. place ≤ site.place) sites.now result }
-{
-    sites.partition_point(|site| site.place < place)
+    let begin = begin_of(&buckets.ends, first) as usize;
+    &buckets.numbers[begin..buckets.ends[last] as usize]
 }

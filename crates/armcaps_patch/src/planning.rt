@@ -8,39 +8,41 @@ ghost use Rattle.armcaps_alt.specs.declared.table_place.Layout.{Layout};
 ghost use Rattle.armcaps_alt.specs.Entries.{Features, selected_of};
 ghost use Rattle.armcaps_alt.specs.Patched.{patched_image};
 ghost use Rattle.armcaps_patch.specs.Counting.{words_of_sites};
-ghost use Rattle.armcaps_patch.specs.Index.{IsSite, Tells, last_at};
-ghost use Rattle.armcaps_patch.specs.Kept.{IsKept, StandsFor, kept_covers, planned_byte, planned_image, sites_of};
+ghost use Rattle.armcaps_patch.specs.Buckets.{sites_at};
+ghost use Rattle.armcaps_patch.specs.Index.{Tells, last_at};
+ghost use Rattle.armcaps_patch.specs.Kept.{IsKept, StandsFor, kept_covers, planned_byte, planned_image};
 
+use crate::buckets::{Buckets, by_bucket};
 use crate::kept::Kept;
-use crate::nearby::near;
+use crate::nearby::numbers_in;
 use crate::patched::Patched;
 use crate::pieces::put_words;
-use crate::site::Site;
 use crate::slots::mark_all;
 use armcaps_alt::Conduit;
 use armcaps_io::{Sink, WriteFault, send_all};
 use std::alloc::{AllocError, Global};
 use std::marker::Model;
 
-/// What is to be patched in an image: the selected entries of its table in their order, and an index that names for
-/// each word the last of them that covers it.
+/// What is to be patched in an image: the selected entries of its table in their order, and their numbers by where
+/// their sites begin.
 #[derive(Debug, Drop)]
 pub struct Plan {
     kept: Vec<Kept>,
-    index: Vec<Site>,
+    buckets: Buckets,
     size: u32,
     ctr: u64,
     conduit: Conduit,
 }
 
 impl Model for Plan {
-    ghost use Rattle.armcaps_patch.specs.Kept.{IsPlan, Planned};
+    ghost use Rattle.armcaps_patch.specs.Buckets.{IsPlan};
+    ghost use Rattle.armcaps_patch.specs.Kept.{Planned};
 
     ghost Value = { Planned };
 
     ghost view = { λ p. record { kept = p.kept.items; size = p.size; ctr = p.ctr; conduit = p.conduit } };
 
-    ghost invariant = { λ p. IsPlan p.size p.kept.items p.index.items };
+    ghost invariant = { λ p. IsPlan p.size p.kept.items p.buckets.numbers.items p.buckets.ends.items };
 }
 
 impl Plan {
@@ -57,11 +59,10 @@ impl Plan {
         requires kept { All (IsKept size) kept.items }
         ensures { IfOk result (λ plan. plan ≡ record { kept = kept.items; size = size; ctr = ctr; conduit = conduit }) }
     {
-        let mut index = sites(alloc, &kept)?;
-        index.sort_unstable_by_key(|site| site.place);
+        let buckets = by_bucket(alloc, &kept, size as usize)?;
         Ok(Plan {
             kept,
-            index,
+            buckets,
             size,
             ctr,
             conduit,
@@ -106,17 +107,21 @@ impl Plan {
 }
 
 impl Plan {
-    // The sites that can cover places from one on to another: the greatest stamp of theirs on a place tells the last
-    // kept entry that covers it.
-    pub(crate) fn nearby(&self, from: usize, to: usize) -> &[Site]
+    // The numbers of what is kept whose sites can cover places from one on to another: the greatest stamp of theirs on a
+    // place tells the last kept entry that covers it.
+    pub(crate) fn nearby(&self, from: usize, to: usize) -> &[u32]
         requires order { from ≤ to }
         requires within { to ≤ self.now.size }
         ensures small { self.now.size ≤ 2 ^ 29 }
         ensures tells { (place : ℕ) → from ≤ place → place < to
-            → Tells (kept_covers place) (last_at place result.now) 0 self.now.kept }
-        ensures sites { All IsSite result.now }
+            → Tells (kept_covers place) (last_at place (sites_at self.now.kept result.now)) 0 self.now.kept }
+        ensures known { All (λ number. number < length self.now.kept) result.now }
     {
-        near(&self.index, from as u32, to as u32)
+        numbers_in(
+            &self.buckets,
+            (from / 256).saturating_sub(1),
+            to.saturating_sub(1) / 256,
+        )
     }
 
     // Fills a buffer with the bytes of the patched image from a place on, by the sites that can cover them.
@@ -124,7 +129,7 @@ impl Plan {
         &self,
         image: &[u8],
         from: usize,
-        nearby: &[Site],
+        nearby: &[u32],
         buffer: &mut [u8],
         slots: &mut [u32],
     )
@@ -133,8 +138,8 @@ impl Plan {
         requires aligned { from % 4 ≡ 0 }
         requires within { from + length buffer.old ≤ length image.now }
         requires tells { (place : ℕ) → from ≤ place → place < from + length buffer.old
-            → Tells (kept_covers place) (last_at place nearby.now) 0 self.now.kept }
-        requires sites { All IsSite nearby.now }
+            → Tells (kept_covers place) (last_at place (sites_at self.now.kept nearby.now)) 0 self.now.kept }
+        requires known { All (λ number. number < length self.now.kept) nearby.now }
         requires slots { length slots.old ≡ length buffer.old / 4 }
         requires ends { from + length buffer.old < length image.now → length buffer.old % 4 ≡ 0 }
         ensures length { length buffer.new ≡ length buffer.old }
@@ -143,7 +148,7 @@ impl Plan {
     {
         buffer.copy_from_slice(&image[from..from + buffer.len()]);
         slots.fill(0);
-        mark_all(slots, from as u32, nearby);
+        mark_all(slots, from as u32, nearby, &self.kept);
         put_words(
             buffer,
             from as u32,
@@ -154,22 +159,6 @@ impl Plan {
             self.conduit,
         );
     }
-}
-
-// The sites of what is kept, numbered from 0 on.
-fn sites(alloc: Global, kept: &[Kept]) -> Result<Vec<Site>, AllocError>
-    requires { length kept.now ≤ 2 ^ 26 }
-    ensures { IfOk result (λ sites. sites.items ≡ sites_of 0 kept.now) }
-{
-    let mut sites = Vec::with_capacity(alloc, kept.len())?;
-    for (number, entry) in kept.iter().enumerate() {
-        sites.push(Site {
-            place: entry.site,
-            words: entry.len / 4,
-            number: number as u32,
-        })?;
-    }
-    Ok(sites)
 }
 
 // How many words the sites of what is kept have.

@@ -1,13 +1,58 @@
 //! The stamps on the places of a piece.
 
-ghost use Rattle.std.specs.Prelude.{◌≡◌, ◌+◌, ◌*◌, ◌%◌, ◌<◌, ◌≤◌, ◌^◌, ◌&&◌, ℕ, if◌then◌else◌, length, max, nat_le, nat_lt, slice_index};
+ghost use Rattle.std.specs.Prelude.{◌≡◌, ◌+◌, ◌*◌, ◌%◌, ◌<◌, ◌≤◌, ◌^◌, ◌&&◌, ℕ, if◌then◌else◌, length, max, nat_le, nat_lt, slice_index, take};
 ghost use Rattle.std.specs.List.{All};
+ghost use Rattle.armcaps_patch.specs.Buckets.{site_of, sites_at};
 ghost use Rattle.armcaps_patch.specs.Index.{IsSite, last_at, stamp_at};
 
+use crate::kept::Kept;
 use crate::site::Site;
 
-// Puts the sites' stamps on the places that they cover: slot k is for the place `from + 4 k`.
-pub(crate) fn mark_all(slots: &mut [u32], from: u32, sites: &[Site])
+// How many sites are fetched at once: they stand anywhere in memory, and none waits for the one before.
+const FETCHED: usize = 64;
+
+// Puts the stamps of the kept entries of these numbers on the places that their sites cover: slot k is for the place
+// `from + 4 k`.
+pub(crate) fn mark_all(slots: &mut [u32], from: u32, numbers: &[u32], kept: &[Kept])
+    requires aligned { from % 4 ≡ 0 }
+    requires from { from ≤ 2 ^ 29 }
+    requires known { All (λ number. number < length kept.now) numbers.now }
+    requires few { length kept.now ≤ 2 ^ 26 }
+    requires sites { All (λ entry. IsSite (site_of 0 entry)) kept.now }
+    ensures { (k : ℕ) → k < length slots.new → slice_index slots.new k
+        ≡ max (slice_index slots.old k) (last_at (from + 4 * k) (sites_at kept.now numbers.now)) }
+{
+    let mut sites = [Site {
+        place: 0,
+        words: 0,
+        number: 0,
+    }; FETCHED];
+    for part in 0..numbers.len().div_ceil(FETCHED) {
+        let end = numbers.len().min(FETCHED * part + FETCHED);
+        let some = &numbers[FETCHED * part..end];
+        fetch(&mut sites, some, kept);
+        mark_sites(slots, from, &sites[..some.len()]);
+    }
+}
+
+// Fetches the sites of the kept entries of these numbers.
+fn fetch(sites: &mut [Site], numbers: &[u32], kept: &[Kept])
+    requires room { length numbers.now ≤ length sites.old }
+    requires known { All (λ number. number < length kept.now) numbers.now }
+    ensures { take (length numbers.now) sites.new ≡ sites_at kept.now numbers.now }
+{
+    for (k, number) in numbers.iter().enumerate() {
+        let entry = &kept[*number as usize];
+        sites[k] = Site {
+            place: entry.site,
+            words: entry.len / 4,
+            number: *number,
+        };
+    }
+}
+
+// Puts the sites' stamps on the places that they cover.
+fn mark_sites(slots: &mut [u32], from: u32, sites: &[Site])
     requires aligned { from % 4 ≡ 0 }
     requires from { from ≤ 2 ^ 29 }
     requires sites { All IsSite sites.now }

@@ -10,7 +10,7 @@ ghost use Rattle.armcaps_patch.specs.Kept.{IsKept, kept_word, moved_word};
 use crate::kept::Kept;
 use armcaps_alt::{Conduit, callback_word};
 use armcaps_image::word;
-use armcaps_insn::{FixRefused, correct};
+use armcaps_insn::{FixRefused, correct, takes_address};
 
 // The new word of a kept entry's site at an index, in words from its begin.
 pub(crate) fn new_word(kept: &Kept, index: u32, image: &[u8], ctr: u64, conduit: Conduit) -> u32
@@ -43,7 +43,7 @@ fn replaced(kept: &Kept, index: u32, image: &[u8], orig: u32) -> u32
 }
 
 // The replacement's word at an index, moved to the site, or why it can't move.
-#[tactic(auto, using(crate::proofs::Addresses::plain_moved))]
+#[tactic(auto, using(crate::proofs::Addresses::told_moved))]
 pub(crate) fn moved(kept: &Kept, index: u32, image: &[u8]) -> Result<u32, FixRefused>
     requires kept { IsKept (length image.now) kept.now }
     requires replacement { kept.now.callback ≡ None }
@@ -63,6 +63,7 @@ pub(crate) fn moved(kept: &Kept, index: u32, image: &[u8]) -> Result<u32, FixRef
 }
 
 // Whether one of so many words takes an address from the place where it stands.
+#[tactic(auto, using(crate::proofs::Addresses::plain))]
 pub(crate) fn takes_addresses(image: &[u8], begin: usize, words: usize) -> bool
     requires { begin + 4 * words ≤ length image.now }
     ensures { result ≡ false
@@ -76,24 +77,3 @@ pub(crate) fn takes_addresses(image: &[u8], begin: usize, words: usize) -> bool
     }
     any
 }
-
-// Whether a word takes an address from the place where it stands, as its highest byte tells.
-pub(crate) fn takes_address(word: u32) -> bool
-    ensures { result ≡ false → class_of word ≡ Other }
-{
-    TAKES_ADDRESS[(word / 0x100_0000) as usize] != 0
-}
-
-// By a word's highest byte, 1 where the word takes an address from the place where it stands: ADR, ADRP; B.cond,
-// BC.cond and the miscellaneous group; B, BL, CBZ, CBNZ, TBZ, TBNZ; literal loads (Arm ARM DDI 0487, "A64
-// instruction set encoding").
-const TAKES_ADDRESS: [u8; 256] = [
-    0, 0, 0, 0, 0, 0, 0, 0, 0, 0, 0, 0, 0, 0, 0, 0, 1, 0, 0, 0, 1, 1, 1, 1, 1, 0, 0, 0, 1, 0, 0, 0,
-    0, 0, 0, 0, 0, 0, 0, 0, 0, 0, 0, 0, 0, 0, 0, 0, 1, 0, 0, 0, 1, 1, 1, 1, 0, 0, 0, 0, 0, 0, 0, 0,
-    0, 0, 0, 0, 0, 0, 0, 0, 0, 0, 0, 0, 0, 0, 0, 0, 1, 0, 0, 0, 1, 1, 0, 0, 1, 0, 0, 0, 1, 0, 0, 0,
-    0, 0, 0, 0, 0, 0, 0, 0, 0, 0, 0, 0, 0, 0, 0, 0, 1, 0, 0, 0, 0, 0, 0, 0, 0, 0, 0, 0, 0, 0, 0, 0,
-    0, 0, 0, 0, 0, 0, 0, 0, 0, 0, 0, 0, 0, 0, 0, 0, 1, 0, 0, 0, 1, 1, 1, 1, 1, 0, 0, 0, 1, 0, 0, 0,
-    0, 0, 0, 0, 0, 0, 0, 0, 0, 0, 0, 0, 0, 0, 0, 0, 1, 0, 0, 0, 1, 1, 1, 1, 0, 0, 0, 0, 0, 0, 0, 0,
-    0, 0, 0, 0, 0, 0, 0, 0, 0, 0, 0, 0, 0, 0, 0, 0, 1, 0, 0, 0, 0, 0, 0, 0, 1, 0, 0, 0, 1, 0, 0, 0,
-    0, 0, 0, 0, 0, 0, 0, 0, 0, 0, 0, 0, 0, 0, 0, 0, 1, 0, 0, 0, 0, 0, 0, 0, 0, 0, 0, 0, 0, 0, 0, 0,
-];

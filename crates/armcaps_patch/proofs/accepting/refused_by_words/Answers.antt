@@ -1,14 +1,14 @@
 -- A word more, and a word that isn't followed.
-use Rattle.std.proofs.Common.{◌≡◌, ◌+◌, ◌*◌, ◌/◌, arith, refl, sym, true, ◌∙◌}
+use Rattle.std.proofs.Common.{◌≡◌, ◌+◌, ◌*◌, ◌/◌, arith, false, not, refl, sym, true, ◌∙◌}
 use Rattle.std.proofs.Math.Bool.{or-false, or-true}
 use Rattle.std.specs.List.{list_any}
 use Rattle.armcaps_alt.specs.Refusals.{is_literal, is_out_of_range}
 use Rattle.armcaps_image.specs.Bytes.{word_in}
-use Rattle.armcaps_insn.specs.declared.instruction_class.Class.TheVariants.{Other}
 use Rattle.armcaps_insn.specs.Encodings.{class_of}
+use Rattle.armcaps_insn.specs.Moved.{takes_no_address}
 use Rattle.armcaps_patch.specs.Replaced.{moved_words}
 use Rattle.armcaps_patch.specs.Kept.{moved_word}
-use Rattle.armcaps_patch.proofs.Addresses.{plain_moved}
+use Rattle.armcaps_patch.proofs.Addresses.{told_moved}
 use Rattle.armcaps_patch.proofs.Moving.{any_here, any_more}
 use Rattle.armcaps_patch.proofs.accepting.refused_by_words.Goals.{then-takes_address+in-Ok, then-takes_address+in-Err-Range, else-takes_address}
 use Rattle.armcaps_patch.proofs.accepting.refused_by_words.Goals as goal
@@ -29,8 +29,8 @@ loop-index-preserved c =
         range = w.is_out_of_range-is ∙ sym (rw (range, ← w.in-Err-Range.ensures, w.in-Err-Range.field-0-is) (or-true (list_any is_out_of_range (moved_words image kept c.loop-index.index))));
       }
       | else-takes_address w ↦
-          let plain : class_of (word_in image (kept.repl + 4 * c.loop-index.index)) ≡ Other = rw c.word.ensures at (c.takes_address.ensures w.if-takes_address.false) in
-          let stays = plain_moved image kept c.loop-index.index plain in
+          let told : not (takes_no_address (class_of (word_in image (kept.repl + 4 * c.loop-index.index)))) ≡ false = rw c.word.ensures at (sym c.takes_address.ensures ∙ w.if-takes_address.false) in
+          let stays = told_moved image kept c.loop-index.index told in
           record {
             literal = rw (literal, c.loop-index.invariant.literal, stays) refl;
             range = w.is_out_of_range-is ∙ (rw (range, stays, ← c.loop-index.invariant.range) (rw or-false refl));
