@@ -2,6 +2,7 @@
 
 ghost use Rattle.std.specs.Prelude.{◌≡◌, ◌+◌, ◌≤◌, ◌^◌, nat_le, true, false, None, Some, IfErr, IfOk, if◌then◌else◌, length};
 ghost use Rattle.armcaps_image.specs.Places.{as_place, is_within};
+ghost use Rattle.armcaps_alt.specs.Names.{callback_named};
 ghost use Rattle.armcaps_alt.specs.Refusals.{first_kind, has_other_length, is_unaligned, makes_other_length, tests_of};
 ghost use Rattle.armcaps_patch.specs.Replaced.{word_tests};
 ghost use Rattle.armcaps_patch.specs.Accepting.{IsPlaced, KeepsOrRefuses};
@@ -14,8 +15,14 @@ use armcaps_image::{place_within, word};
 use armcaps_insn::{FixRefused, takes_address};
 
 // What is kept of a selected entry, or the least kind that holds of it.
-pub(crate) fn accept(entry: &Entry, image: &[u8], names: &Names) -> Result<Kept, PatchKind>
-    requires { length image.now ≤ 2 ^ 29 }
+pub(crate) fn accept(
+    entry: &Entry,
+    callback: Option<CallbackKind>,
+    image: &[u8],
+    names: &Names,
+) -> Result<Kept, PatchKind>
+    requires size { length image.now ≤ 2 ^ 29 }
+    requires callback { entry.now.callback ≡ true → callback ≡ callback_named names.now entry.now.repl }
     ensures { KeepsOrRefuses names.now image.now entry.now result }
 {
     if is_unaligned(entry) {
@@ -28,19 +35,26 @@ pub(crate) fn accept(entry: &Entry, image: &[u8], names: &Names) -> Result<Kept,
         return Err(PatchKind::Length);
     }
     if entry.callback {
-        accept_callback(entry, site, image, names)
+        accept_callback(entry, callback, site, image, names)
     } else {
         accept_replacement(entry, site, image, names)
     }
 }
 
 // The same of an entry with a callback, of which no kind before UnknownCallback holds.
-fn accept_callback(entry: &Entry, site: u32, image: &[u8], names: &Names) -> Result<Kept, PatchKind>
+fn accept_callback(
+    entry: &Entry,
+    named: Option<CallbackKind>,
+    site: u32,
+    image: &[u8],
+    names: &Names,
+) -> Result<Kept, PatchKind>
     requires callback { entry.now.callback ≡ true }
+    requires named { named ≡ callback_named names.now entry.now.repl }
     requires placed { IsPlaced (length image.now) entry.now site }
     ensures { KeepsOrRefuses names.now image.now entry.now result }
 {
-    let Some(kind) = names.callback(entry.repl) else {
+    let Some(kind) = named else {
         return Err(PatchKind::UnknownCallback);
     };
     if makes_other_length(kind, entry.orig_len) {

@@ -5,17 +5,19 @@ ghost use Rattle.std.specs.List.{All};
 ghost use Rattle.std.specs.Option.{option_to_list};
 ghost use Rattle.armcaps_alt.specs.declared.patch_kind.PatchKind.{PatchKind};
 ghost use Rattle.armcaps_alt.specs.Entries.{entry_at, selected_of};
+ghost use Rattle.armcaps_alt.specs.Names.{callback_named};
 ghost use Rattle.armcaps_alt.specs.Refusals.{first_refusal, refusal_by};
 ghost use Rattle.armcaps_patch.specs.Features.{features_of};
 ghost use Rattle.armcaps_patch.specs.Kept.{IsKept, StandsFor, kept_of};
 
 use crate::accepting::accept;
+use crate::callbacks::{first_asked, kind_of};
 use crate::choosing::{choose, none_yet};
 use crate::kept::Kept;
 use crate::planning::Plan;
 use crate::refused::PatchRefused;
 use crate::selecting::enabled_on;
-use armcaps_alt::{Entry, Layout, Names, PatchKind};
+use armcaps_alt::{CallbackKind, Entry, Layout, Names, PatchKind};
 use armcaps_boot::Boot;
 use std::alloc::{AllocError, Global};
 
@@ -93,11 +95,13 @@ fn keep_all(
 {
     let enabled = enabled_on(boot);
     let mut choices = none_yet(alloc)?;
+    let mut asked = first_asked(alloc, names)?;
     let mut kept = Vec::with_capacity(alloc, layout.count as usize)?;
     for index in 0..layout.count {
         let entry = entry_at(image, layout, index);
         let is_selected = choose(&mut choices, &entry, names, &enabled);
-        match keep(is_selected, &entry, image, names) {
+        let callback = kind_of(&mut asked, &entry, names);
+        match keep(is_selected, &entry, callback, image, names) {
             Ok(found) => add(&mut kept, found)?,
             Err(kind) => return Err(PatchRefused::Entry { entry: index, kind }),
         }
@@ -127,14 +131,16 @@ pub fn entry_at(image: &[u8], layout: Layout, index: u32) -> Entry
     Entry::read(&image[place..], place as u64)
 }
 
-// What is kept of an entry by whether it is selected: nothing if it isn't, or the least kind that holds of it.
+// What is kept of an entry by whether it is selected and its callback's kind: nothing if it isn't, or the least kind that holds of it.
 fn keep(
     selected: Option<bool>,
     entry: &Entry,
+    callback: Option<CallbackKind>,
     image: &[u8],
     names: &Names,
 ) -> Result<Option<Kept>, PatchKind>
-    requires { length image.now ≤ 2 ^ 29 }
+    requires size { length image.now ≤ 2 ^ 29 }
+    requires callback { entry.now.callback ≡ true → callback ≡ callback_named names.now entry.now.repl }
     ensures refused { IfErr result (λ kind. refusal_by selected names.now image.now entry.now ≡ Some kind) }
     ensures accepted { IfOk result (λ kept. refusal_by selected names.now image.now entry.now ≡ None) }
     ensures kept { IfOk result (λ kept. kept
@@ -144,7 +150,7 @@ fn keep(
     match selected {
         None => Err(PatchKind::UnknownCap),
         Some(false) => Ok(None),
-        Some(true) => match accept(entry, image, names) {
+        Some(true) => match accept(entry, callback, image, names) {
             Ok(kept) => Ok(Some(kept)),
             Err(kind) => Err(kind),
         },

@@ -4,6 +4,7 @@
 
 mod accepting;
 mod buckets;
+mod callbacks;
 mod checking;
 mod choice;
 mod choosing;

@@ -23,6 +23,7 @@ loop-index-preserved c =
     let here : refusal_of features image (entry_at image c.args.layout at) ≡ None = rw (chosen, is) at found.accepted in
     let numbers : length c.choose-is_selected.new.choices ≡ 2 ^ 15 = c.choose-is_selected.ensures.length ∙ ap length c.deref_mut.ensures.value ∙ c.loop-index.invariant.numbers in
     let written = written_over c.loop-index.choices.len c.choose-is_selected.new.choices c.loop-index.choices.items (omega (arith, numbers, c.loop-index.invariant.numbers)) (omega arith) in
+    let looked_up = written_over c.loop-index.asked.len c.kind_of-callback.new.asked c.loop-index.asked.items (omega (arith, c.kind_of-callback.ensures.many, c.loop-index.invariant.callbacks)) (omega arith) in
     record {
       accepted = λ k within. elim (cases_lt k at) [
         | inl before ↦ c.loop-index.invariant.accepted k before
@@ -33,6 +34,8 @@ loop-index-preserved c =
       few = few_more _ _ c.in-Ok.found at c.loop-index.invariant.few grown;
       known = rw written c.choose-is_selected.ensures.known;
       numbers = ap length written ∙ numbers;
+      asked = rw looked_up c.kind_of-callback.ensures.known;
+      callbacks = ap length looked_up ∙ c.kind_of-callback.ensures.many;
     }
 
 pub returns-in-Err-clause-refused : goal.returns-in-Err-clause-refused
@@ -57,6 +60,8 @@ loop-index-init c = record {
   few = omega (arith, ap length c.in_ok-kept.ensures.items);
   known = none_known c.args.names.now _ (2 ^ 15) _ c.in_ok-choices.ensures;
   numbers = ap length c.in_ok-choices.ensures ∙ length-replicate (2 ^ 15) Unasked;
+  asked = c.in_ok-asked.ensures.known;
+  callbacks = c.in_ok-asked.ensures.many;
 }
 
 pub choose-is_selected-requires-clause-number : goal.choose-is_selected-requires-clause-number

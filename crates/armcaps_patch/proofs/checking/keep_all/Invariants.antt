@@ -3,7 +3,7 @@ use Rattle.std.specs.List.{All, filter, range_with_len}
 use Rattle.armcaps_alt.specs.Entries.{entry_at, is_selected}
 use Rattle.armcaps_alt.specs.Refusals.{refusal_of}
 use Rattle.armcaps_caps.specs.Set.{holds}
-use Rattle.armcaps_patch.specs.Choices.{AreChoices}
+use Rattle.armcaps_patch.specs.Choices.{AreAsked, AreChoices}
 use Rattle.armcaps_patch.specs.Features.{features_of}
 use Rattle.armcaps_patch.specs.Kept.{IsKept, kept_of}
 use Rattle.armcaps_patch.proofs.checking.keep_all.Given as goal
@@ -17,4 +17,6 @@ invariant-loop-index l = record {
   few : length l.kept.items ≤ l.index;
   known : AreChoices l.names (holds l.enabled) l.choices.items;
   numbers : length l.choices.items ≡ 2 ^ 15;
+  asked : AreAsked l.names l.asked.items;
+  callbacks : length l.asked.items ≡ 1024;
 }
