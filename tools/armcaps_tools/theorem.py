@@ -10,7 +10,7 @@ SUBJECTS = (
     ("A run", "What is promised of one call, whatever its words and its input are.", (
         "armcaps_top/Run", "armcaps_top/Answer")),
     ("How a run ends", "The endings, their statuses and lines, and what the streams gave and got.", (
-        "armcaps_top/Ending", "armcaps_top/Telling", "armcaps_io")),
+        "armcaps_top/Statuses", "armcaps_top/ErrorLines", "armcaps_io")),
     ("Commands", "What the words ask for, and what each command writes.", (
         "armcaps_top", "armcaps_mrs", "armcaps_report")),
     ("Input", "What text the bytes of an input are, and what it says.", (

@@ -1,6 +1,6 @@
 -- Lemmas, by subject.
 pub mod Accepting
-pub mod Agreeing
+pub mod KnownCapabilities
 pub mod Lookup
-pub mod Replacing
+pub mod ReplacedSites
 pub mod Worked

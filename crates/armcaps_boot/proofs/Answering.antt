@@ -11,23 +11,24 @@ use Rattle.armcaps_boot.specs.declared.core_state.CoreState.{CoreState}
 use Rattle.armcaps_boot.specs.declared.core_state.CoreState.TheVariants.{Parked as IsParked, Panicked as HasPanicked}
 use Rattle.armcaps_board.specs.declared.event.Event.{Event}
 use Rattle.armcaps_board.specs.declared.event.Event.TheVariants.{Finalise}
-use Rattle.armcaps_boot.specs.declared.halt.Halt.{Halt}
+use Rattle.armcaps_boot.specs.declared.park_or_panic.Halt.{Halt}
 use Rattle.armcaps_boot.specs.declared.past.Past.{Past}
 use Rattle.armcaps_boot.specs.declared.reply.Reply.{Reply}
 use Rattle.armcaps_board.specs.Board.{Board}
 use Rattle.armcaps_board.specs.Order.{in_order}
 use Rattle.armcaps_board.specs.Steps.{is_final, is_finalise, is_step_of, last_step}
-use Rattle.armcaps_boot.specs.Admission.{came_early, early_cores_after, halt_at, halt_of, has_come, held_back, was_verified}
+use Rattle.armcaps_boot.specs.Admission.{came_early, early_cores_after, has_come, was_verified}
+use Rattle.armcaps_boot.specs.ParkOrPanic.{halt_at, halt_of, held_back, stops_machine}
 use Rattle.armcaps_boot.specs.After.{IsAfter, past_from, reply_from, reply_of, state_from, state_of, states_after}
 use Rattle.armcaps_boot.specs.Answers.{Answer, judged, live_answer, numbered}
-use Rattle.armcaps_boot.specs.Causes.{cause_at_check, cause_at_verification, stops_machine}
+use Rattle.armcaps_boot.specs.Causes.{cause_at_check, cause_at_verification}
 use Rattle.armcaps_boot.specs.Changes.{world_after}
 use Rattle.armcaps_boot.specs.Facts.{Facts}
 use Rattle.armcaps_boot.specs.States.{past_of}
 use Rattle.armcaps_boot.specs.World.{World, early_cores, state_at}
 use Rattle.armcaps_board.proofs.Turns.{last-other}
 use Rattle.armcaps_boot.proofs.Histories.{early-same, come-same, no_step}
-use Rattle.armcaps_boot.proofs.Holding.{IsCase, case_of, held_from, held_is, held-other, other_number, past_by, shown_early, shown_late, shown_never, never_true, state_of-boot, state_of-other}
+use Rattle.armcaps_boot.proofs.HeldBack.{IsCase, case_of, held_from, held_is, held-other, other_number, past_by, shown_early, shown_late, shown_never, never_true, state_of-boot, state_of-other}
 use Rattle.armcaps_boot.proofs.Moves.{moved}
 use Rattle.armcaps_boot.proofs.ShorterHistories.{early_listed, state_at-after}
 

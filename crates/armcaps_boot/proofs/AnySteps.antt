@@ -5,28 +5,27 @@ use Rattle.armcaps_boot.specs.declared.cause.Cause.{Cause}
 use Rattle.armcaps_boot.specs.declared.core_state.CoreState.{CoreState}
 use Rattle.armcaps_board.specs.declared.event.Event.{Event}
 use Rattle.armcaps_board.specs.declared.event.Event.TheVariants.{Check, Local, Store, Offline, Finalise}
-use Rattle.armcaps_boot.specs.declared.halt.Halt.{Halt}
+use Rattle.armcaps_boot.specs.declared.park_or_panic.Halt.{Halt}
 use Rattle.armcaps_boot.specs.declared.past.Past.{Past}
 use Rattle.armcaps_boot.specs.declared.reply.Reply.{Reply}
 use Rattle.armcaps_boot.specs.declared.reply.Reply.TheVariants.{Done}
 use Rattle.armcaps_board.specs.Board.{Board}
 use Rattle.armcaps_board.specs.Order.{in_order, is_begun_last, is_next}
 use Rattle.armcaps_board.specs.Steps.{last_step}
-use Rattle.armcaps_boot.specs.Admission.{halt_of, held_back}
+use Rattle.armcaps_boot.specs.ParkOrPanic.{halt_of, held_back, stops_machine}
 use Rattle.armcaps_boot.specs.After.{IsAfter, past_from, reply_of, state_from, state_of}
 use Rattle.armcaps_boot.specs.Answers.{answer_of, finalise_answer, first_in_flight, live_answer, unless_halted}
-use Rattle.armcaps_boot.specs.Causes.{stops_machine}
 use Rattle.armcaps_boot.specs.Changes.{world_after}
 use Rattle.armcaps_boot.specs.Facts.{Facts}
 use Rattle.armcaps_boot.specs.States.{is_in_flight}
 use Rattle.armcaps_boot.specs.World.{World, state_at}
 use Rattle.armcaps_boot.proofs.Answering.{IsAnswered, halt_next, length_after, states_stay}
 use Rattle.armcaps_board.proofs.Turns.{settled, turn_of}
-use Rattle.armcaps_boot.proofs.Holding.{state_of-boot, state_of-other}
+use Rattle.armcaps_boot.proofs.HeldBack.{state_of-boot, state_of-other}
 use Rattle.armcaps_boot.proofs.FirstNumbers.{first_of-none}
 use Rattle.armcaps_boot.proofs.ShorterHistories.{state_at-after}
-use Rattle.armcaps_boot.proofs.CheckStep.{check_answered}
-use Rattle.armcaps_boot.proofs.LocalStep.{local_answered}
+use Rattle.armcaps_boot.proofs.CheckParksOrPanics.{check_answered}
+use Rattle.armcaps_boot.proofs.LateCoreParked.{local_answered}
 use Rattle.armcaps_boot.proofs.StoreStep.{store_answered, offline_answered}
 
 -- a core that has not begun to come up is not in flight

@@ -3,12 +3,12 @@ use Rattle.std.proofs.Common.{◌≡◌, ℕ, ◌+◌, ◌<◌, ◌≤◌, List,
 use Rattle.std.specs.Prelude.{reverse, Option, Some, None}
 use Rattle.armcaps_board.specs.declared.event.Event.{Event}
 use Rattle.armcaps_board.specs.declared.event.Event.TheVariants.{Check}
-use Rattle.armcaps_boot.specs.declared.halt.Halt.{Halt}
+use Rattle.armcaps_boot.specs.declared.park_or_panic.Halt.{Halt}
 use Rattle.armcaps_board.specs.Board.{Board}
-use Rattle.armcaps_boot.specs.Admission.{halt_of, steps_made}
+use Rattle.armcaps_boot.specs.ParkOrPanic.{halt_of, steps_made}
 use Rattle.armcaps_boot.specs.After.{IsAfter}
 use Rattle.armcaps_boot.specs.World.{World}
-use Rattle.armcaps_boot.specs.Bringing.{IsAt, steps_before}
+use Rattle.armcaps_boot.specs.StepByStep.{IsAt, steps_before}
 use Rattle.armcaps_boot.proofs.StepByStep.{made_whole, steps_whole, stops_at}
 
 -- the board of a machine that has made steps of a board is that board

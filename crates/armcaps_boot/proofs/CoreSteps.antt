@@ -11,9 +11,10 @@ use Rattle.armcaps_boot.specs.declared.core_state.CoreState.{CoreState}
 use Rattle.armcaps_boot.specs.declared.core_state.CoreState.TheVariants.{Checked, Updated, Admitted, Parked, Panicked}
 use Rattle.armcaps_boot.specs.declared.past.Past.{Past}
 use Rattle.armcaps_boot.specs.declared.past.Past.TheVariants.{Never, Early, Late}
-use Rattle.armcaps_boot.specs.declared.halt.Halt.{Halt}
+use Rattle.armcaps_boot.specs.declared.park_or_panic.Halt.{Halt}
 use Rattle.armcaps_board.specs.Board.{core_at}
-use Rattle.armcaps_boot.specs.Causes.{cause_at_check, cause_at_verification, has_capability, has_length, stops_machine}
+use Rattle.armcaps_boot.specs.Causes.{cause_at_check, cause_at_verification, has_capability, has_length}
+use Rattle.armcaps_boot.specs.ParkOrPanic.{stops_machine}
 use Rattle.armcaps_boot.specs.Changes.{admitted_after, checked_world, gone_after, left_world, noted_with, stored_world, updated_world}
 use Rattle.armcaps_boot.specs.Choosing.{chosen}
 use Rattle.armcaps_boot.specs.Facts.{Facts, IsGathering, IsHalt, IsParkedFor, IsStateOf, noted_cores}

@@ -14,12 +14,12 @@ pub mod Beginning
 pub mod SafeSystem
 pub mod ComingBack
 pub mod Histories
-pub mod Holding
+pub mod HeldBack
 pub mod ShorterHistories
 pub mod Answering
 pub mod OwnSteps
-pub mod CheckStep
-pub mod LocalStep
+pub mod CheckParksOrPanics
+pub mod LateCoreParked
 pub mod StoreStep
 pub mod AnySteps
 pub mod WholeRuns

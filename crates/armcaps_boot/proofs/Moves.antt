@@ -8,7 +8,7 @@ use Rattle.armcaps_tables.specs.Core.{word_at}
 use Rattle.armcaps_boot.specs.declared.cause.Cause.{Cause}
 use Rattle.armcaps_boot.specs.declared.core_state.CoreState.{CoreState}
 use Rattle.armcaps_boot.specs.declared.core_state.CoreState.TheVariants.{Absent}
-use Rattle.armcaps_boot.specs.declared.halt.Halt.{Halt}
+use Rattle.armcaps_boot.specs.declared.park_or_panic.Halt.{Halt}
 use Rattle.armcaps_boot.specs.Causes.{capability_enabled, cause_at_check, cause_at_verification, has_length, is_system_length}
 use Rattle.armcaps_boot.specs.Changes.{hwcaps_over}
 use Rattle.armcaps_boot.specs.Facts.{Facts, IsDecided, IsGathering, IsHalt, IsStateOf, StateFits}

@@ -11,7 +11,8 @@ use Rattle.armcaps_board.specs.declared.event.Event.{Event}
 use Rattle.armcaps_board.specs.declared.event.Event.TheVariants.{Check, Local, Store, Offline}
 use Rattle.armcaps_board.specs.Board.{Board}
 use Rattle.armcaps_board.specs.Steps.{core_of, is_step_of, last_step}
-use Rattle.armcaps_boot.specs.Admission.{came_early, early_cores_after, halt_at, held_back, was_verified}
+use Rattle.armcaps_boot.specs.Admission.{came_early, early_cores_after, was_verified}
+use Rattle.armcaps_boot.specs.ParkOrPanic.{halt_at, held_back}
 use Rattle.armcaps_boot.specs.After.{IsAfter, past_from, reply_from, reply_of, state_from, state_of}
 use Rattle.armcaps_boot.specs.Answers.{Answer, live_answer, numbered}
 use Rattle.armcaps_boot.specs.Causes.{cause_at_check, cause_at_verification}
@@ -21,7 +22,7 @@ use Rattle.armcaps_boot.proofs.Answering.{IsAnswered, IsTurnIn, IsOwn, after_ski
 use Rattle.armcaps_logic.proofs.Options.{option_or-none}
 use Rattle.armcaps_board.proofs.Turns.{last-own}
 use Rattle.armcaps_boot.proofs.Histories.{verified-same, without_step}
-use Rattle.armcaps_boot.proofs.Holding.{held_from, held_is, held_stays, other_number, state_of-other}
+use Rattle.armcaps_boot.proofs.HeldBack.{held_from, held_is, held_stays, other_number, state_of-other}
 
 pub own_number : (k : ℕ) → (k == k) ≡ true
 own_number k = (Decides-eqb k k).1 refl

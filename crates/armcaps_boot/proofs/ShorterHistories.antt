@@ -17,7 +17,7 @@ use Rattle.armcaps_boot.specs.States.{is_admitted, is_early}
 use Rattle.armcaps_boot.specs.World.{admitted_cores, early_cores, state_at}
 use Rattle.std.proofs.lemmas.Bool.{and_parts, or_left, or_right}
 use Rattle.armcaps_boot.proofs.Histories.{course, early-final, early_came, verified_final}
-use Rattle.armcaps_boot.proofs.Holding.{admitted_by_state, early_by_state, late-final}
+use Rattle.armcaps_boot.proofs.HeldBack.{admitted_by_state, early_by_state, late-final}
 
 pub order_before : (board : Board) (later p : List Event) → in_order board (later ++ p) ≡ true → in_order board p ≡ true
 unfolding in_order

@@ -4,14 +4,14 @@ use Rattle.std.specs.Prelude.{reverse, Result, Ok, Option, Some, None, is_some}
 use Rattle.std.specs.Option.{option_or}
 use Rattle.std.proofs.lemmas.List.{reverse-append, take_more}
 use Rattle.armcaps_board.specs.declared.event.Event.{Event}
-use Rattle.armcaps_boot.specs.declared.halt.Halt.{Halt}
+use Rattle.armcaps_boot.specs.declared.park_or_panic.Halt.{Halt}
 use Rattle.armcaps_boot.specs.declared.refused.StepRefused.{StepRefused}
 use Rattle.armcaps_boot.specs.declared.reply.Reply.{Reply}
 use Rattle.armcaps_board.specs.Board.{Board}
 use Rattle.std.proofs.lemmas.Bool.{and_parts}
 use Rattle.armcaps_board.specs.Order.{in_order, is_next}
-use Rattle.armcaps_boot.specs.Admission.{halt_at, halt_of, steps_made}
-use Rattle.armcaps_boot.specs.Bringing.{steps_before}
+use Rattle.armcaps_boot.specs.ParkOrPanic.{halt_at, halt_of, steps_made}
+use Rattle.armcaps_boot.specs.StepByStep.{steps_before}
 
 -- what is answered alike is alike
 pub ok_same : (answer : Result Reply StepRefused) (one other : Reply) → answer ≡ Ok one → answer ≡ Ok other → one ≡ other

@@ -6,7 +6,8 @@ use Rattle.std.proofs.lemmas.Bool.Decides.{Decides-ltb, Decides-eqb, not_from_De
 use Rattle.armcaps_tables.specs.Core.{Core}
 use Rattle.armcaps_board.specs.Board.{Board}
 use Rattle.armcaps_boot.specs.Answers.{Answer, answer_of, cause_at_local, check_answer, finalise_answer, first_in_flight, judged, live_answer, local_answer, numbered, offline_answer, store_answer, unless_halted}
-use Rattle.armcaps_boot.specs.Causes.{cause_at_check, cause_at_verification, first_conflict, has_capability, has_length, misfit, stops_machine}
+use Rattle.armcaps_boot.specs.Causes.{cause_at_check, cause_at_verification, first_conflict, has_capability, has_length, misfit}
+use Rattle.armcaps_boot.specs.ParkOrPanic.{stops_machine}
 use Rattle.armcaps_boot.specs.Changes.{world_after}
 use Rattle.armcaps_boot.specs.Facts.{Facts}
 use Rattle.armcaps_boot.specs.Numbers.{first_of}
@@ -20,7 +21,7 @@ use Rattle.armcaps_boot.specs.declared.core_state.CoreState.{CoreState}
 use Rattle.armcaps_boot.specs.declared.core_state.CoreState.TheVariants.{Absent, Checked, Updated, Admitted, Offline as Gone, Parked as IsParked, Panicked as HasPanicked}
 use Rattle.armcaps_board.specs.declared.event.Event.{Event}
 use Rattle.armcaps_board.specs.declared.event.Event.TheVariants.{Check, Local, Store, Offline, Finalise}
-use Rattle.armcaps_boot.specs.declared.halt.Halt.{Halt}
+use Rattle.armcaps_boot.specs.declared.park_or_panic.Halt.{Halt}
 use Rattle.armcaps_boot.specs.declared.past.Past.{Past}
 use Rattle.armcaps_boot.specs.declared.past.Past.TheVariants.{Never, Early, Late}
 use Rattle.armcaps_boot.proofs.CoreSteps.{facts_checked, facts_left, facts_out, facts_updated, facts_stored, still_running, now_stopped}

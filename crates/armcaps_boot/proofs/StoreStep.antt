@@ -11,7 +11,8 @@ use Rattle.armcaps_boot.specs.declared.reply.Reply.TheVariants.{Done}
 use Rattle.armcaps_board.specs.Board.{Board, core_at}
 use Rattle.armcaps_board.specs.Order.{is_up_last, is_updated_last}
 use Rattle.armcaps_board.specs.Steps.{is_final, last_step}
-use Rattle.armcaps_boot.specs.Admission.{came_early, has_come, held_back}
+use Rattle.armcaps_boot.specs.Admission.{came_early, has_come}
+use Rattle.armcaps_boot.specs.ParkOrPanic.{held_back}
 use Rattle.armcaps_boot.specs.After.{past_from, reply_from, reply_of, state_from}
 use Rattle.armcaps_boot.specs.Answers.{offline_answer, store_answer}
 use Rattle.armcaps_boot.specs.Changes.{admitted_after, gone_after}
@@ -19,7 +20,7 @@ use Rattle.armcaps_boot.specs.States.{is_late_past, past_of}
 use Rattle.armcaps_boot.specs.World.{World, state_at}
 use Rattle.armcaps_boot.proofs.Answering.{IsTurnIn, IsAnswered, after_moved, numbered_in, past-same, past_in, running_in, shows}
 use Rattle.armcaps_boot.proofs.Histories.{course, early-same, come-same, verified-same, verified_final}
-use Rattle.armcaps_boot.proofs.Holding.{past_by}
+use Rattle.armcaps_boot.proofs.HeldBack.{past_by}
 use Rattle.armcaps_boot.proofs.OwnSteps.{own_number, store_own, offline_own, skipped, state_next, stepped_by, held_own}
 
 updated_answer : (last : Option Event) (was : Past) → is_updated_last last ≡ true → store_answer (state_from last None was) ≡ Ok Done

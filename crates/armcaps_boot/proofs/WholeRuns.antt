@@ -13,7 +13,8 @@ use Rattle.armcaps_boot.specs.declared.past.Past.{Past}
 use Rattle.armcaps_board.specs.Board.{Board, IsBoard, core_at}
 use Rattle.armcaps_board.specs.Order.{in_order, is_begun_last, is_complete, is_next, is_some_in_flight, is_up_last}
 use Rattle.armcaps_board.specs.Steps.{is_final, last_step}
-use Rattle.armcaps_boot.specs.Admission.{came_early, early_cores_after, halt_at, halt_of, has_come, held_back, is_among_admitted, is_among_early, is_among_late, was_verified}
+use Rattle.armcaps_boot.specs.Admission.{came_early, early_cores_after, has_come, is_among_admitted, is_among_early, is_among_late, was_verified}
+use Rattle.armcaps_boot.specs.ParkOrPanic.{halt_at, halt_of, held_back}
 use Rattle.armcaps_boot.specs.After.{IsAfter, past_from, reply_of, state_from, state_of, states_after}
 use Rattle.armcaps_boot.specs.Answers.{Answer}
 use Rattle.armcaps_boot.specs.Causes.{capability_enabled, cause_at_check, cause_at_verification, has_capability}
@@ -31,7 +32,7 @@ use Rattle.std.proofs.lemmas.Bool.{and_parts, not-true, false≢true}
 use Rattle.armcaps_logic.proofs.Options.{option_or_first}
 use Rattle.armcaps_board.proofs.Turns.{none_in_flight, turn_of}
 use Rattle.armcaps_boot.proofs.Histories.{course, early_came, is_gone_last, on_either}
-use Rattle.armcaps_boot.proofs.Holding.{admitted_by_state, held_from, held_is, not_finalise, other_number, past_by, state_of-boot, state_of-other}
+use Rattle.armcaps_boot.proofs.HeldBack.{admitted_by_state, held_from, held_is, not_finalise, other_number, past_by, state_of-boot, state_of-other}
 use Rattle.armcaps_boot.proofs.SafeSystem.{enabled_is_supported, needed_is_enabled}
 use Rattle.armcaps_boot.proofs.ShorterHistories.{state_at-after}
 use Rattle.armcaps_boot.proofs.StepLaw.{step_keeps_facts}

@@ -14,8 +14,8 @@ use Rattle.armcaps_boot.specs.declared.past.Past.{Past}
 use Rattle.armcaps_boot.specs.declared.past.Past.TheVariants.{Never, Early, Late}
 use Rattle.armcaps_boot.specs.declared.reply.Reply.{Reply}
 use Rattle.armcaps_boot.specs.declared.reply.Reply.TheVariants.{Done, Parked, Panicked, Skipped}
-use Rattle.armcaps_boot.specs.Admission.{came_early, has_come, held_back, halt_of}
-use Rattle.armcaps_boot.specs.Causes.{stops_machine}
+use Rattle.armcaps_boot.specs.Admission.{came_early, has_come}
+use Rattle.armcaps_boot.specs.ParkOrPanic.{halt_of, held_back, stops_machine}
 use Rattle.armcaps_boot.specs.States.{is_late_past}
 use Rattle.armcaps_boot.specs.World.{World}
 

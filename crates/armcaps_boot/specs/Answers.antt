@@ -5,12 +5,13 @@ use Rattle.armcaps_board.specs.declared.event.Event.TheVariants.{Check, Local, S
 use Rattle.armcaps_boot.specs.declared.cause.Cause.{Cause}
 use Rattle.armcaps_boot.specs.declared.core_state.CoreState.{CoreState}
 use Rattle.armcaps_boot.specs.declared.core_state.CoreState.TheVariants.{Absent, Checked, Updated, Admitted, Offline as Gone, Parked as IsParked}
-use Rattle.armcaps_boot.specs.declared.halt.Halt.{Halt}
+use Rattle.armcaps_boot.specs.declared.park_or_panic.Halt.{Halt}
 use Rattle.armcaps_boot.specs.declared.refused.StepRefused.{StepRefused}
 use Rattle.armcaps_boot.specs.declared.refused.StepRefused.TheVariants.{NoCore, IsBootCore, OutOfTurn, AlreadyFinal, InFlight, Halted}
 use Rattle.armcaps_boot.specs.declared.reply.Reply.{Reply}
 use Rattle.armcaps_boot.specs.declared.reply.Reply.TheVariants.{Done, Parked, Panicked, Skipped}
-use Rattle.armcaps_boot.specs.Causes.{cause_at_check, cause_at_verification, stops_machine}
+use Rattle.armcaps_boot.specs.Causes.{cause_at_check, cause_at_verification}
+use Rattle.armcaps_boot.specs.ParkOrPanic.{stops_machine}
 use Rattle.armcaps_boot.specs.Numbers.{first_of}
 use Rattle.armcaps_boot.specs.States.{is_in_flight}
 use Rattle.armcaps_boot.specs.World.{World, state_at, early_cores}

@@ -1,7 +1,7 @@
 -- Why a core is not admitted, and what is decided over the cores that came before finalisation (Linux,
 -- arch/arm64/kernel/cpufeature.c, `check_early_cpu_features`, `verify_local_cpu_capabilities` and
 -- `setup_cpu_features`).
-use Rattle.std.specs.Prelude.{ℕ, ◌-◌, ◌<◌, ◌==◌, Bool, true, false, not, ◌&&◌, if◌then◌else◌, nat_lt, List, Option, Some}
+use Rattle.std.specs.Prelude.{ℕ, ◌-◌, ◌<◌, ◌==◌, Bool, not, ◌&&◌, if◌then◌else◌, nat_lt, List, Option, Some}
 use Rattle.std.specs.List.{list_any, list_all}
 use Rattle.std.specs.Option.{option_map, option_or}
 use Rattle.std.specs.Int.{bit_at}
@@ -9,7 +9,7 @@ use Rattle.armcaps_bits.specs.Field.{unsigned_field}
 use Rattle.armcaps_enc.specs.declared.register.SysReg.TheVariants.{IdAa64Mmfr0El1, CtrEl0}
 use Rattle.armcaps_tables.specs.Core.{Core, core_word}
 use Rattle.armcaps_board.specs.Board.{Board, boot_core, core_at}
-use Rattle.armcaps_caps.specs.Capabilities.{core_has_capability, capability_over, conflicts, is_boot_scope, is_local_scope, is_panic}
+use Rattle.armcaps_caps.specs.Capabilities.{core_has_capability, capability_over, conflicts, is_boot_scope, is_local_scope}
 use Rattle.armcaps_hwcap.specs.Hwcaps.{core_has_hwcap, hwcap_over}
 use Rattle.armcaps_caps.specs.Rows.{capability_count}
 use Rattle.armcaps_hwcap.specs.Rows.{hwcap_count}
@@ -95,13 +95,6 @@ abbrev pub cause_at_verification : Board → List Core → ℕ → Option Cause
 cause_at_verification board early number =
     misfit (capability_enabled board early) (hwcap_advertised board early) (is_system_length board early)
     board (core_at board.cores number)
-
--- whether a cause stops the whole machine
-abbrev pub stops_machine : Cause → Bool
-stops_machine Asid = true
-stops_machine (Cap number) = is_panic number
-stops_machine (Hwcap index) = false
-stops_machine (Vector length) = false
 
 -- a capability that a cause names is in the table
 abbrev pub IsNumbered : Cause → Type 0

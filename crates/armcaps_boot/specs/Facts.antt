@@ -10,8 +10,9 @@ use Rattle.armcaps_board.specs.Board.{IsCtrPlain, boot_core}
 use Rattle.armcaps_boot.specs.declared.cause.Cause.{Cause}
 use Rattle.armcaps_boot.specs.declared.core_state.CoreState.{CoreState}
 use Rattle.armcaps_boot.specs.declared.core_state.CoreState.TheVariants.{Admitted, Parked, Panicked}
-use Rattle.armcaps_boot.specs.declared.halt.Halt.{Halt}
-use Rattle.armcaps_boot.specs.Causes.{cause_at_check, cause_at_verification, has_capability, capability_enabled, is_system_length, has_length, stops_machine}
+use Rattle.armcaps_boot.specs.declared.park_or_panic.Halt.{Halt}
+use Rattle.armcaps_boot.specs.Causes.{cause_at_check, cause_at_verification, has_capability, capability_enabled, is_system_length, has_length}
+use Rattle.armcaps_boot.specs.ParkOrPanic.{stops_machine}
 use Rattle.armcaps_boot.specs.Changes.{hwcaps_over}
 use Rattle.armcaps_boot.specs.Choosing.{chosen}
 use Rattle.armcaps_boot.specs.Numbers.{numbers}

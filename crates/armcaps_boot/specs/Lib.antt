@@ -13,7 +13,8 @@ pub mod First
 pub mod Safety
 pub mod Returning
 pub mod Admission
+pub mod ParkOrPanic
 pub mod After
 pub mod Findings
 pub mod Outcome
-pub mod Bringing
+pub mod StepByStep

@@ -5,7 +5,7 @@ use Rattle.armcaps_hwcap.specs.declared.hw_set.HwSet.{HwSet}
 use Rattle.armcaps_board.specs.Board.{Board}
 use Rattle.armcaps_boot.specs.declared.core_state.CoreState.{CoreState}
 use Rattle.armcaps_boot.specs.declared.core_state.CoreState.TheVariants.{Absent}
-use Rattle.armcaps_boot.specs.declared.halt.Halt.{Halt}
+use Rattle.armcaps_boot.specs.declared.park_or_panic.Halt.{Halt}
 use Rattle.armcaps_boot.specs.Choosing.{chosen}
 use Rattle.armcaps_boot.specs.States.{is_admitted, is_early}
 

@@ -11,8 +11,8 @@ ghost use Rattle.armcaps_boot.specs.First.{first_states, first_world};
 ghost use Rattle.armcaps_boot.specs.Numbers.{is_in};
 
 use crate::core_state::CoreState;
-use crate::halt::Halt;
 use crate::machine::Machine;
+use crate::park_or_panic::Halt;
 use crate::refused::{BootRefused, StepRefused};
 use crate::reply::Reply;
 use armcaps_board::{Board, Event};

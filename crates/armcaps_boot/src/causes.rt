@@ -12,7 +12,7 @@ ghost use Rattle.armcaps_boot.specs.Scopes.{conflict_with, has_by, held_at_check
 use crate::cause::Cause;
 use armcaps_bits::Bits;
 use armcaps_board::Board;
-use armcaps_caps::{CAPABILITIES, CapSet, conflict, has, is_boot_scope, is_panic};
+use armcaps_caps::{CAPABILITIES, CapSet, conflict, has, is_boot_scope};
 use armcaps_enc::SysReg;
 use armcaps_hwcap::{HWCAPS, HwSet, core_has};
 use armcaps_tables::CoreRegs;
@@ -180,16 +180,4 @@ fn has_length(lengths: u16, length: u8) -> bool
     ensures { result ≡ causes.has_length lengths length }
 {
     lengths >> (length - 1) & 1 == 1
-}
-
-/// Whether a cause stops the whole machine.
-pub(crate) fn stops_machine(cause: Cause) -> bool
-    requires { causes.IsNumbered cause }
-    ensures { result ≡ causes.stops_machine cause }
-{
-    match cause {
-        Cause::Asid => true,
-        Cause::Cap(number) => is_panic(number),
-        Cause::Hwcap(_) | Cause::Vector(_) => false,
-    }
 }

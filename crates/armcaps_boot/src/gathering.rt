@@ -5,7 +5,7 @@ ghost use Rattle.armcaps_boot.specs.Answers as answers;
 ghost use Rattle.armcaps_boot.specs.Scopes as asked;
 
 use crate::core_state::CoreState;
-use crate::moving::is_in_flight;
+use crate::states::is_in_flight;
 use armcaps_board::Board;
 use armcaps_caps::{CAPABILITIES, CapSet, has, is_boot_scope, is_local_scope, system_has};
 use armcaps_sanit::System;

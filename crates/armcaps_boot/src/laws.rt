@@ -5,7 +5,8 @@ ghost use Rattle.std.specs.Prelude.{◌≡◌, ◌<◌, ◌==◌, ◌&&◌, ◌|
 ghost use Rattle.armcaps_board.specs.declared.event.Event.{Event as Step};
 ghost use Rattle.armcaps_board.specs.Board.{Board, IsBoard};
 ghost use Rattle.armcaps_board.specs.Order.{in_order, is_complete, is_next};
-ghost use Rattle.armcaps_boot.specs.Admission.{admitted_cores_after, early_cores_after, halt_of, has_come, is_among_admitted, is_among_early, is_among_late};
+ghost use Rattle.armcaps_boot.specs.Admission.{admitted_cores_after, early_cores_after, has_come, is_among_admitted, is_among_early, is_among_late};
+ghost use Rattle.armcaps_boot.specs.ParkOrPanic.{halt_of};
 ghost use Rattle.armcaps_boot.specs.After.{IsAfter, reply_of, state_of, states_after};
 ghost use Rattle.armcaps_boot.specs.Answers.{answer_of};
 ghost use Rattle.armcaps_boot.specs.Changes.{world_after};

@@ -2,27 +2,27 @@
 #![tactic(auto)]
 
 mod boot;
-mod bringing;
 mod cause;
 mod causes;
 mod core_state;
 mod gathering;
-mod halt;
 pub mod laws;
 mod machine;
-mod moving;
+mod park_or_panic;
 mod past;
 mod refused;
 mod reply;
+mod states;
+mod step_by_step;
 #[cfg(test)]
 mod tests;
 
 pub use armcaps_board::{Event, StepLine, events_of};
 pub use boot::Boot;
-pub use bringing::{bring_up, make_step};
 pub use cause::Cause;
 pub use core_state::CoreState;
-pub use halt::Halt;
+pub use park_or_panic::Halt;
 pub use past::Past;
 pub use refused::{BootRefused, StepRefused};
 pub use reply::Reply;
+pub use step_by_step::{bring_up, make_step};

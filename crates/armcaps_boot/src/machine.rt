@@ -15,13 +15,13 @@ ghost use Rattle.armcaps_boot.specs.States.{is_admitted};
 ghost use Rattle.armcaps_boot.specs.World.{state_at};
 
 use crate::cause::Cause;
-use crate::causes::{cause_at_check, cause_at_verification, stops_machine};
+use crate::causes::{cause_at_check, cause_at_verification};
 use crate::core_state::CoreState;
 use crate::gathering::{decided, first_in_flight, with_own};
-use crate::halt::Halt;
-use crate::moving::{admitted_after, is_admitted, past_of};
+use crate::park_or_panic::Halt;
 use crate::refused::StepRefused;
 use crate::reply::Reply;
+use crate::states::{admitted_after, is_admitted, past_of};
 use armcaps_board::{Board, Event};
 use armcaps_caps::CapSet;
 use armcaps_enc::SysReg;
@@ -111,7 +111,7 @@ impl Machine {
                     self.states[core as usize] = CoreState::Checked(past_of(state));
                     Ok(Reply::Done)
                 }
-                Some(cause) => Ok(self.hold_back(core, cause)),
+                Some(cause) => Ok(self.park_or_panic(core, cause)),
             },
             CoreState::Parked(_) => Ok(Reply::Skipped),
             _ => Err(StepRefused::OutOfTurn { state }),
@@ -130,7 +130,7 @@ impl Machine {
                     self.states[core as usize] = CoreState::Updated(past);
                     Ok(Reply::Done)
                 }
-                Some(cause) => Ok(self.hold_back(core, cause)),
+                Some(cause) => Ok(self.park_or_panic(core, cause)),
             },
             CoreState::Parked(_) => Ok(Reply::Skipped),
             _ => Err(StepRefused::OutOfTurn { state }),
@@ -278,22 +278,5 @@ impl Machine {
         let mut system = self.system;
         system.admit(self.board.core(core));
         system
-    }
-
-    // Parks a core, or lets it stop the machine.
-    fn hold_back(&mut self, core: u32, cause: Cause) -> Reply
-        requires within { core < length self.old.states.items }
-        requires numbered { causes.IsNumbered cause }
-        ensures answer { Ok result ≡ answers.judged (Some cause) }
-        ensures after { world_of self.new ≡ changes.held_world (world_of self.old) (Some core) result }
-    {
-        if stops_machine(cause) {
-            self.states[core as usize] = CoreState::Panicked(cause);
-            self.halted = Some(Halt { core, cause });
-            Reply::Panicked(cause)
-        } else {
-            self.states[core as usize] = CoreState::Parked(cause);
-            Reply::Parked(cause)
-        }
     }
 }

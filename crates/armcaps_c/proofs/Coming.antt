@@ -6,9 +6,9 @@ use Rattle.armcaps_boot.specs.World.{World}
 use Rattle.armcaps_io.specs.Causes.{Rose}
 use Rattle.armcaps_io.specs.Streams.{Appends}
 use Rattle.armcaps_top.specs.Answer.{Answer, answer_for}
-use Rattle.armcaps_top.specs.Ending.{output_status, reason_status, status_of}
+use Rattle.armcaps_top.specs.Statuses.{output_status, reason_status, status_of}
 use Rattle.armcaps_top.specs.Run.{AreSafe, Change, EndsSo, Promises, ReadFails, reads_input}
-use Rattle.armcaps_top.specs.Telling.{Tells, ending_line}
+use Rattle.armcaps_top.specs.ErrorLines.{Tells, ending_line}
 use Rattle.armcaps_top.specs.declared.commands.Command.{Command}
 use Rattle.armcaps_top.specs.declared.commands.Command.TheVariants.{Ask, Patch, Elf, Jump, Pool, Audit, Demo}
 use Rattle.armcaps_top.specs.declared.ending.Ending.{Ending}

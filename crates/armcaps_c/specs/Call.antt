@@ -3,9 +3,9 @@ use Rattle.std.specs.Prelude.{◌≡◌, ◌≢◌, ◌⊎◌, ◌<◌, ◌≤�
 use Rattle.std.specs.Result.{IsOkAnd}
 use Rattle.armcaps_top.specs.Answer.{Answer, answer_for}
 use Rattle.armcaps_top.specs.Commands.{command_of}
-use Rattle.armcaps_top.specs.Ending.{output_status}
+use Rattle.armcaps_top.specs.Statuses.{output_status}
 use Rattle.armcaps_top.specs.Run.{AreSafe}
-use Rattle.armcaps_top.specs.Telling.{ending_line}
+use Rattle.armcaps_top.specs.ErrorLines.{ending_line}
 use Rattle.armcaps_top.specs.declared.ending.Ending.TheVariants.{Memory, NoOutput}
 use Rattle.armcaps_top.specs.declared.reason.Reason.{Reason}
 use Rattle.armcaps_c.specs.Words.{AreText, words_in}

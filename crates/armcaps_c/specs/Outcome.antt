@@ -1,7 +1,7 @@
 -- What a run in memory came to, and how it is handed to the caller.
 use Rattle.std.specs.Prelude.{◌≡◌, ◌≢◌, ◌<◌, ◌≤◌, ℕ, List, Ok, length}
 use Rattle.armcaps_top.specs.Answer.{Answer}
-use Rattle.armcaps_top.specs.Ending.{output_status}
+use Rattle.armcaps_top.specs.Statuses.{output_status}
 use Rattle.armcaps_top.specs.Run.{AreSafe}
 use Rattle.armcaps_c.specs.Call.{Buffer, IsGiven, told_line}
 

@@ -12,7 +12,7 @@ mod words;
 ghost use Rattle.std.specs.Prelude.{◌≡◌, ◌≢◌, ◌<◌, ◌≤◌, if◌then◌else◌, length};
 ghost use Rattle.armcaps_c.specs.Call.{Answers, Buffer, IsGiven};
 ghost use Rattle.armcaps_c.specs.Outcome.{IsHanded};
-ghost use Rattle.armcaps_top.specs.Telling.{ending_line};
+ghost use Rattle.armcaps_top.specs.ErrorLines.{ending_line};
 ghost use Rattle.armcaps_top.specs.declared.ending.Ending.TheVariants.{Memory};
 
 use crate::buffer::copy_into;
@@ -21,7 +21,7 @@ use crate::words::words_of;
 use std::alloc::Global;
 
 // Ends for want of memory, which has its line without any.
-#[tactic(auto, unfolding(armcaps_top::specs::Ending::ending_text))]
+#[tactic(auto, unfolding(armcaps_top::specs::ErrorLines::ending_text))]
 fn no_memory(err: &mut [u8], err_len: &mut usize) -> u8
     ensures status { result ≡ 6 }
     ensures told { IsGiven (ending_line Memory) (record { old = err.old; new = err.new; count = err_len.new }) }

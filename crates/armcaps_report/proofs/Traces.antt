@@ -14,7 +14,7 @@ use Rattle.armcaps_boot.specs.Choosing.{chosen}
 use Rattle.armcaps_boot.specs.States.{is_admitted}
 use Rattle.armcaps_boot.specs.World.{World, admitted_cores, state_at}
 use Rattle.armcaps_boot.proofs.ShorterHistories.{chosen-within, state_at-after}
-use Rattle.armcaps_boot.specs.Bringing.{steps_before}
+use Rattle.armcaps_boot.specs.StepByStep.{steps_before}
 use Rattle.armcaps_report.specs.Trace.{admitted_by, lines_of_steps, step_lines}
 use Rattle.armcaps_boot.proofs.StepByStep.{steps_apart, steps_more}
 

@@ -5,9 +5,9 @@ ghost use Rattle.armcaps_tables.specs.Core.{Core};
 ghost use Rattle.armcaps_tables.specs.Overriding.{FieldOverrides};
 ghost use Rattle.armcaps_sanit.specs.System.{IsSystemOf};
 ghost use Rattle.armcaps_board.specs.declared.event.Event.TheVariants as Event;
-ghost use Rattle.armcaps_boot.specs.Admission.{halt_of, steps_made};
+ghost use Rattle.armcaps_boot.specs.ParkOrPanic.{halt_of, steps_made};
 ghost use Rattle.armcaps_boot.specs.After.{IsAfter};
-ghost use Rattle.armcaps_boot.specs.Bringing.{IsAt, steps_before};
+ghost use Rattle.armcaps_boot.specs.StepByStep.{IsAt, steps_before};
 ghost use Rattle.armcaps_report.specs.Trace.{changed_line, changed_lines, reply_text, step_line, step_lines, step_text, trace_of};
 
 use crate::causes::push_cause;

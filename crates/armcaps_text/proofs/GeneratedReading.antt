@@ -9,11 +9,11 @@ use Rattle.armcaps_board.specs.Steps.{history}
 use Rattle.armcaps_board.specs.declared.event.Event.{Event}
 use Rattle.armcaps_board.specs.declared.event.Event.TheVariants.{Check, Local, Store, Offline, Finalise}
 use Rattle.armcaps_board.proofs.Turns.{turn_of}
-use Rattle.armcaps_boot.specs.Admission.{halt_for, halt_of}
+use Rattle.armcaps_boot.specs.ParkOrPanic.{halt_for, halt_of}
 use Rattle.armcaps_boot.specs.Causes.{cause_at_check, cause_of_check, first_conflict}
 use Rattle.armcaps_boot.specs.Numbers.{first_of}
 use Rattle.armcaps_boot.specs.declared.cause.Cause.{Cause}
-use Rattle.armcaps_boot.specs.declared.halt.Halt.{Halt}
+use Rattle.armcaps_boot.specs.declared.park_or_panic.Halt.{Halt}
 use Rattle.armcaps_caps.specs.Capabilities.{core_has_capability, is_boot_scope, is_optional, is_permitted, test_of}
 use Rattle.armcaps_caps.specs.Rows.{capability_rows}
 use Rattle.armcaps_cmdline.proofs.Fitting.{command_line_fits, listed}

@@ -2,7 +2,7 @@
 use Rattle.std.proofs.Common.{◌≡◌, ℕ, zero, suc, ◌<◌, ◌||◌, Bool, true, false, cond, List, [], ◌∷◌, length, find, Option, Some, None, option_map, is_none, IsSome, refl, sym, ap, subst, ◌∙◌, arith, get_or, lit<}
 use Rattle.std.proofs.lemmas.Bool.{false≢true}
 use Rattle.armcaps_text.specs.Before.{Before}
-use Rattle.armcaps_text.specs.Kinds.{is_in_passed_section, lacks_core, lacks_boot, kinds_asked, first_true, kind_after}
+use Rattle.armcaps_text.specs.KindAtLine.{is_in_passed_section, lacks_core, lacks_boot, kinds_asked, first_true, kind_after}
 use Rattle.armcaps_text.specs.Learned.{learned}
 use Rattle.armcaps_text.specs.Meaning.{is_last}
 use Rattle.armcaps_text.specs.declared.format.Format.{Format}

@@ -10,7 +10,7 @@ use Rattle.std.proofs.lemmas.List.Sums.{sum_by-cons, sum_by-take-le}
 use Rattle.armcaps_text.specs.Before.{Before, before}
 use Rattle.armcaps_text.specs.Document.{Reading, Reads, Refuses, bytes_of, ends_at, kind_at, refused_or, outcome_at, outcome_after, reading_after, unended_kind, outcome_of_lines, outcome}
 use Rattle.armcaps_text.specs.Formats.{format_named}
-use Rattle.armcaps_text.specs.Kinds.{kind_after}
+use Rattle.armcaps_text.specs.KindAtLine.{kind_after}
 use Rattle.armcaps_text.specs.Learned.{learned}
 use Rattle.armcaps_text.specs.Lines.{all_but_last, ended_lines, first_mebibyte, lines_of}
 use Rattle.armcaps_text.specs.Meaning.{line_of, is_last}
@@ -22,8 +22,8 @@ use Rattle.armcaps_text.specs.declared.line.Line.{Line}
 use Rattle.armcaps_text.specs.declared.line.Line.TheVariants.{Image}
 use Rattle.armcaps_text.proofs.Images.{image_within, format_limits}
 use Rattle.armcaps_text.proofs.LastLine.{last_is}
-use Rattle.armcaps_text.proofs.LineByLine.{before-push}
-use Rattle.armcaps_text.proofs.LineLemmas.{all_but_last-cons, mebibyte_within}
+use Rattle.armcaps_text.proofs.OneMoreLine.{before-push}
+use Rattle.armcaps_text.proofs.FirstLine.{all_but_last-cons, mebibyte_within}
 use Rattle.armcaps_text.proofs.Soundness.{SoFar, sound_at_first, sound_next, sound_last}
 use Rattle.armcaps_logic.proofs.Lists.{item_at}
 

@@ -15,7 +15,7 @@ use Rattle.armcaps_cmdline.proofs.IdRegisters.{outside}
 use Rattle.armcaps_enc.specs.declared.register.SysReg.TheVariants.{CtrEl0}
 use Rattle.armcaps_text.specs.Before.{Before, before}
 use Rattle.armcaps_text.specs.Document.{reading_after}
-use Rattle.armcaps_text.specs.Kinds.{kinds_asked, kind_after, is_second_header, is_in_passed_section, lacks_core, lacks_boot, has_one_line}
+use Rattle.armcaps_text.specs.KindAtLine.{kinds_asked, kind_after, is_second_header, is_in_passed_section, lacks_core, lacks_boot, has_one_line}
 use Rattle.armcaps_text.specs.Learned.{zero_core, learned}
 use Rattle.armcaps_text.specs.Meaning.{section_of}
 use Rattle.armcaps_text.specs.Sound.{IsSound}

@@ -10,7 +10,7 @@ use Rattle.armcaps_board.specs.Board.{Board}
 use Rattle.armcaps_cmdline.specs.Overrides.{command_line_overrides}
 use Rattle.armcaps_text.specs.Before.{Before, before}
 use Rattle.armcaps_text.specs.Formats.{format_named}
-use Rattle.armcaps_text.specs.Kinds.{kind_after}
+use Rattle.armcaps_text.specs.KindAtLine.{kind_after}
 use Rattle.armcaps_text.specs.Lines.{lines_of}
 use Rattle.armcaps_text.specs.Meaning.{line_of, is_last}
 use Rattle.armcaps_text.specs.declared.format.Format.{Format}

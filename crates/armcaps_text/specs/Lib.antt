@@ -8,7 +8,7 @@ pub mod Meaning
 pub mod Kept
 pub mod Before
 pub mod Learned
-pub mod Kinds
+pub mod KindAtLine
 pub mod Document
 pub mod Sound
 pub mod Reader

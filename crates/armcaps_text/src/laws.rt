@@ -4,7 +4,7 @@ ghost use Rattle.std.specs.Prelude.{◌≡◌, ◌≤◌, ℕ, List, None, lengt
 ghost use Rattle.armcaps_alt.specs.Entries.{Features};
 ghost use Rattle.armcaps_alt.specs.Refusals.{first_refusal};
 ghost use Rattle.armcaps_board.specs.Steps.{history};
-ghost use Rattle.armcaps_boot.specs.Admission.{halt_of};
+ghost use Rattle.armcaps_boot.specs.ParkOrPanic.{halt_of};
 ghost use Rattle.armcaps_generate.specs.Cores.{generated_board, generated_steps};
 ghost use Rattle.armcaps_text.specs.Document.{Reading, Reads, outcome};
 ghost use Rattle.armcaps_text.specs.Generator.{generated_reading};

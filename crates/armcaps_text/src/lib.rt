@@ -6,7 +6,7 @@ mod form;
 mod format;
 mod generator;
 mod kind;
-mod kinds;
+mod kind_at_line;
 pub mod laws;
 mod line;
 mod lines;

@@ -13,7 +13,7 @@ pub fn find_byte(text: &[u8], wanted: u8) -> Option<usize>
 }
 
 /// The first line of a text, without its line feed, and what stands after that; nothing where no line ends.
-#[tactic(auto, using(crate::proofs::LineLemmas::ended_lines_some, crate::proofs::LineLemmas::ended_lines_none))]
+#[tactic(auto, using(crate::proofs::FirstLine::ended_lines_some, crate::proofs::FirstLine::ended_lines_none))]
 pub fn next_line(text: &[u8]) -> Option<(&[u8], &[u8])>
     ensures none { IfNone result (ended_lines text.now ≡ []) }
     ensures line { IfSome result (λ cut. ended_lines text.now ≡ cut.0.now ∷ ended_lines cut.1.now) }
@@ -24,7 +24,7 @@ pub fn next_line(text: &[u8]) -> Option<(&[u8], &[u8])>
 }
 
 /// The part of an input in which the lines of its text end.
-#[tactic(auto, unfolding(crate::specs::Lines::first_mebibyte), using(crate::proofs::LineLemmas::take_least))]
+#[tactic(auto, unfolding(crate::specs::Lines::first_mebibyte), using(crate::proofs::FirstLine::take_least))]
 pub fn first_mebibyte(input: &[u8]) -> &[u8]
     ensures { result.now ≡ first_mebibyte input.now }
 {

@@ -84,7 +84,7 @@ impl<'a> Reader<'a> {
     ghost use Rattle.armcaps_alt.specs.declared.named_number.Named.{Named};
     ghost use Rattle.armcaps_text.specs.Before.{before};
     ghost use Rattle.armcaps_text.specs.Document.{reading_after, reading_of, IsRefusalAt};
-    ghost use Rattle.armcaps_text.specs.Kinds.{kind_after};
+    ghost use Rattle.armcaps_text.specs.KindAtLine.{kind_after};
     ghost use Rattle.armcaps_text.specs.Learned.{zero_core, with_last, with_word, with_lengths, named_after, measured_after, put_into, learned};
     ghost use Rattle.armcaps_text.specs.Meaning.{plain, section_of};
     ghost use Rattle.armcaps_text.specs.Reader.{so_far};

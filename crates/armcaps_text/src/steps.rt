@@ -31,7 +31,7 @@ impl Model for Steps {
 }
 
 // Makes room for this many last steps.
-#[tactic(auto, using(crate::proofs::StepLemmas::begun_room, crate::proofs::StepLemmas::each_room))]
+#[tactic(auto, using(crate::proofs::StepsInTurn::begun_room, crate::proofs::StepsInTurn::each_room))]
 fn grow(last: &mut Vec<Option<Event>>, len: usize) -> Result<(), AllocError>
     ensures each { (core : ℕ) → slice_index_or last.new.items core None ≡ slice_index_or last.old.items core None }
     ensures count { sum_by one_begun last.new.items ≡ sum_by one_begun last.old.items }
@@ -50,7 +50,7 @@ fn one_begun(last: Option<Event>) -> usize
 }
 
 // Puts in the last step of a core, and counts the cores on their way up anew.
-#[tactic(auto, using(crate::proofs::StepLemmas::begun_few, crate::proofs::StepLemmas::count_set))]
+#[tactic(auto, using(crate::proofs::StepsInTurn::begun_few, crate::proofs::StepsInTurn::count_set))]
 fn put(last: &mut Vec<Option<Event>>, place: usize, event: Event, begun: usize) -> usize
     requires within { place < vec_len last.old }
     requires count { begun ≡ sum_by one_begun last.old.items }
@@ -64,7 +64,7 @@ fn put(last: &mut Vec<Option<Event>>, place: usize, event: Event, begun: usize) 
 
 impl Steps {
     /// No steps.
-    #[tactic(auto, using(crate::proofs::StepLemmas::kept_at_start))]
+    #[tactic(auto, using(crate::proofs::StepsInTurn::kept_at_start))]
     pub fn new(alloc: Global) -> Self
         ensures { result ≡ [] }
     {

@@ -25,7 +25,7 @@ fn start_of(line: &[u8]) -> Option<usize>
 }
 
 /// What stands after the first space that follows a line's first token.
-#[tactic(auto, using(crate::proofs::TokenLemmas::text_after))]
+#[tactic(auto, using(crate::proofs::TextAfterWord::text_after))]
 pub fn text_after_word(line: &[u8]) -> &[u8]
     ensures { result.now ≡ text_after_word line.now }
 {

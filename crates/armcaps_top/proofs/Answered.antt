@@ -3,11 +3,11 @@ use Rattle.std.proofs.Common.{◌≡◌, ◌≢◌, ℕ, ◌<◌, true, List, []
 use Rattle.std.specs.Prelude.{Result, Err, reverse}
 use Rattle.std.specs.List.{flat_map}
 use Rattle.armcaps_board.specs.declared.event.Event.{Event}
-use Rattle.armcaps_boot.specs.declared.halt.Halt.{Halt}
+use Rattle.armcaps_boot.specs.declared.park_or_panic.Halt.{Halt}
 use Rattle.armcaps_board.specs.Board.{Board, IsBoard}
 use Rattle.armcaps_board.specs.Order.{in_order, is_complete}
 use Rattle.armcaps_board.specs.Steps.{events_of, history}
-use Rattle.armcaps_boot.specs.Admission.{halt_of, steps_made}
+use Rattle.armcaps_boot.specs.ParkOrPanic.{halt_of, steps_made}
 use Rattle.armcaps_boot.specs.After.{IsAfter}
 use Rattle.armcaps_boot.specs.Facts.{Facts}
 use Rattle.armcaps_boot.specs.First.{first_world}
@@ -15,7 +15,7 @@ use Rattle.armcaps_boot.specs.World.{World}
 use Rattle.armcaps_text.specs.Document.{Reading}
 use Rattle.armcaps_text.specs.Sound.{IsSound}
 use Rattle.armcaps_top.specs.Answer.{unless_stopped}
-use Rattle.armcaps_boot.specs.Bringing.{IsAt}
+use Rattle.armcaps_boot.specs.StepByStep.{IsAt}
 use Rattle.armcaps_top.specs.Bringing.{IsBegun}
 use Rattle.armcaps_top.specs.Inside.{IsHaltOf, IsNotUp, IsThrough, IsUp}
 use Rattle.armcaps_top.specs.declared.ending.Ending.{Ending}

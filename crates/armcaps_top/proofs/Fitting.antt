@@ -15,7 +15,7 @@ use Rattle.armcaps_jump.specs.Refusals as labels
 use Rattle.armcaps_jump.specs.Refusals.{first_refusal as first_label_refusal}
 use Rattle.armcaps_pool.specs.Audits.{first_difference}
 use Rattle.armcaps_patch.specs.Features.{features_of_findings}
-use Rattle.armcaps_boot.specs.declared.halt.Halt.{Halt}
+use Rattle.armcaps_boot.specs.declared.park_or_panic.Halt.{Halt}
 use Rattle.armcaps_text.proofs.GeneratedReading.{generated_up}
 use Rattle.armcaps_text.specs.Generator.{generated_reading}
 use Rattle.armcaps_top.specs.Answer.{Answer, answer_for, findings_in, first_stop, steps_of, halt_in, of_document, of_documents, output_in, read_or_not, refused, unless_stopped, up_to_stop}
@@ -23,7 +23,7 @@ use Rattle.armcaps_top.specs.Audit.{audit_reason, yes_line}
 use Rattle.armcaps_top.specs.Demo.{generated_document}
 use Rattle.armcaps_top.specs.Document.{Document, document, document_pair, documents}
 use Rattle.armcaps_top.specs.Elf.{elf_reason, file_kind, first_unloaded, patched_file, table_in, unloaded_at}
-use Rattle.armcaps_top.specs.Ending.{reason_status}
+use Rattle.armcaps_top.specs.Statuses.{reason_status}
 use Rattle.armcaps_top.specs.Inside.{AreCoresGiven}
 use Rattle.armcaps_top.specs.Jump.{labelled_after, unless_label_refused}
 use Rattle.armcaps_top.specs.Mrs.{read_output}

@@ -19,7 +19,7 @@ pub mod Performing
 pub mod PooledBaselines
 pub mod Pools
 pub mod Promising
-pub mod ShortLines
+pub mod ErrorLinesFit
 pub mod Sites
 pub mod SmallNumbers
 pub mod Unpatched

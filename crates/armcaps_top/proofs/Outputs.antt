@@ -12,15 +12,14 @@ use Rattle.armcaps_boot.specs.declared.past.Past.{Past}
 use Rattle.armcaps_board.specs.Board.{Board}
 use Rattle.armcaps_board.specs.Order.{is_begun_last, is_complete, is_some_in_flight}
 use Rattle.armcaps_board.specs.Steps.{is_final, last_step}
-use Rattle.armcaps_boot.specs.Admission.{halt_of, held_back, steps_made}
+use Rattle.armcaps_boot.specs.ParkOrPanic.{halt_of, held_back, steps_made, stops_machine}
 use Rattle.armcaps_boot.specs.After.{IsAfter, past_from, state_from, state_of}
-use Rattle.armcaps_boot.specs.Causes.{stops_machine}
 use Rattle.armcaps_boot.specs.Facts.{Facts}
 use Rattle.armcaps_boot.specs.Findings.{findings_after, findings_of}
 use Rattle.armcaps_boot.specs.World.{World, state_at}
 use Rattle.std.proofs.lemmas.Bool.{and_parts, not-true}
 use Rattle.armcaps_board.proofs.Turns.{none_in_flight}
-use Rattle.armcaps_boot.proofs.Holding.{state_of-boot, state_of-other}
+use Rattle.armcaps_boot.proofs.HeldBack.{state_of-boot, state_of-other}
 use Rattle.armcaps_boot.proofs.ShorterHistories.{state_at-after}
 use Rattle.armcaps_report.specs.Settled.{AreSettled, is_settled}
 use Rattle.armcaps_boot.proofs.StepByStep.{made_whole}

@@ -7,7 +7,7 @@ use Rattle.armcaps_alt.specs.Laws.{ReplacesSites}
 use Rattle.armcaps_alt.specs.Patched.{patched_image}
 use Rattle.armcaps_alt.specs.Refusals as alternatives
 use Rattle.armcaps_alt.specs.Refusals.{first_refusal}
-use Rattle.armcaps_alt.proofs.Replacing.{replaces_sites}
+use Rattle.armcaps_alt.proofs.ReplacedSites.{replaces_sites}
 use Rattle.armcaps_image.specs.Bytes.{AreBytes}
 use Rattle.armcaps_text.specs.Document as text
 use Rattle.armcaps_text.specs.Document.{Outcome, Reading, outcome}

@@ -6,10 +6,10 @@ use Rattle.armcaps_boot.specs.World.{World}
 use Rattle.armcaps_io.specs.Causes.{Rose}
 use Rattle.armcaps_io.specs.Streams.{Appends, GivesAtMost, Keeps}
 use Rattle.armcaps_top.specs.Answer.{Answer, answer_for, answer_of}
-use Rattle.armcaps_top.specs.Ending.{output_status, reason_status, status_of}
+use Rattle.armcaps_top.specs.Statuses.{output_status, reason_status, status_of}
 use Rattle.armcaps_top.specs.Inside.{AreCoresGiven, Performs}
 use Rattle.armcaps_top.specs.Run.{AreMachinesOf, Change, EndsSo, Promises, ReadFails, can_end}
-use Rattle.armcaps_top.specs.Telling.{Tells}
+use Rattle.armcaps_top.specs.ErrorLines.{Tells}
 use Rattle.armcaps_top.specs.declared.commands.Command.{Command}
 use Rattle.armcaps_top.specs.declared.ending.Ending.{Ending}
 use Rattle.armcaps_top.specs.declared.ending.Ending.TheVariants.{Done, ReadFault, WriteFault, Memory, NoOutput}

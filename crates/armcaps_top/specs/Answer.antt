@@ -5,9 +5,10 @@ use Rattle.armcaps_tables.specs.Core.{Core}
 use Rattle.armcaps_board.specs.declared.event.Event.{Event}
 use Rattle.armcaps_board.specs.Board.{Board}
 use Rattle.armcaps_board.specs.Steps.{history}
-use Rattle.armcaps_boot.specs.Admission.{admitted_cores_after, halt_of}
+use Rattle.armcaps_boot.specs.Admission.{admitted_cores_after}
+use Rattle.armcaps_boot.specs.ParkOrPanic.{halt_of}
 use Rattle.armcaps_boot.specs.Findings.{Findings, findings_after}
-use Rattle.armcaps_boot.specs.declared.halt.Halt.{Halt}
+use Rattle.armcaps_boot.specs.declared.park_or_panic.Halt.{Halt}
 use Rattle.armcaps_mrs.specs.Reading.{user_read}
 use Rattle.armcaps_report.specs.Report.{report_of}
 use Rattle.armcaps_top.specs.Audit.{audit_output}

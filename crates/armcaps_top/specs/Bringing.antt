@@ -3,8 +3,8 @@ use Rattle.std.specs.Prelude.{◌≡◌, true, List, reverse, None}
 use Rattle.armcaps_board.specs.declared.event.Event.{Event}
 use Rattle.armcaps_board.specs.Order.{is_complete}
 use Rattle.armcaps_board.specs.Steps.{history}
-use Rattle.armcaps_boot.specs.Admission.{halt_of}
-use Rattle.armcaps_boot.specs.Bringing.{IsAt}
+use Rattle.armcaps_boot.specs.ParkOrPanic.{halt_of}
+use Rattle.armcaps_boot.specs.StepByStep.{IsAt}
 use Rattle.armcaps_boot.specs.Outcome.{IsSafe}
 use Rattle.armcaps_boot.specs.World.{World}
 use Rattle.armcaps_text.specs.Document.{Reading}

@@ -1,11 +1,8 @@
--- Which inputs are documents, and why another is none. The formats, limits and texts are this project's own.
-use Rattle.std.specs.Prelude.{ℕ, ◌-◌, ◌*◌, ◌++◌, nat_lt, if◌then◌else◌, List, [], length, drop, map, codes, Option, Some, None, Result, Ok, Err}
-use Rattle.std.specs.Fmt.{decimal}
+-- Which inputs are documents, and why another is none. The formats and limits are this project's own.
+use Rattle.std.specs.Prelude.{ℕ, ◌-◌, ◌*◌, nat_lt, if◌then◌else◌, List, [], length, drop, map, Option, Some, None, Result, Ok, Err}
 use Rattle.armcaps_text.specs.Document.{Reading, Outcome, Reads, Refuses, outcome}
 use Rattle.armcaps_text.specs.Formats.{format_of}
-use Rattle.armcaps_text.specs.Refusal.{refusal_text}
-use Rattle.armcaps_text.specs.Texts.{texts_of, texts_refusal_text}
-use Rattle.armcaps_text.specs.declared.kind.TextRefused.TheVariants as refused
+use Rattle.armcaps_text.specs.Texts.{texts_of}
 use Rattle.armcaps_text.specs.declared.texts.TextsRefused.{TextsRefused}
 use Rattle.armcaps_top.specs.declared.refusal.Refusal.{Refusal}
 use Rattle.armcaps_top.specs.declared.refusal.Refusal.TheVariants.{Line, TooLong, ImageShort, Trailing, Texts}
@@ -77,11 +74,3 @@ documents_after (Err refused) = Err (Texts refused)
 unfoldable pub documents : List ℕ → Result (List Document) Refusal
 documents input =
     if nat_lt 67108864 (length input) then Err (TooLong 67108864) else documents_after (texts_of input)
-
--- the text of a refusal, as `line 7: kind 13 turn`
-unfoldable pub refused_text : Refusal → List ℕ
-refused_text (Line line kind) = refusal_text (refused.Line line kind)
-refused_text (TooLong limit) = codes "input longer than " ++ decimal limit ++ codes " bytes"
-refused_text (ImageShort got of) = codes "image short: " ++ decimal got ++ codes " of " ++ decimal of ++ codes " bytes"
-refused_text (Trailing extra) = codes "trailing bytes: " ++ decimal extra
-refused_text (Texts refused) = texts_refusal_text refused

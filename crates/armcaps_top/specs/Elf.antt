@@ -1,6 +1,5 @@
 -- What `elf` writes: the ELF file of a kernel with its selected alternatives, or why it writes none.
-use Rattle.std.specs.Prelude.{◌==◌, ◌&&◌, ◌∷◌, [], ◌++◌, ℕ, ℤ, Bool, List, Option, None, Some, Result, codes, find, if◌then◌else◌, is_some, not, slice_get, unwrap_or}
-use Rattle.std.specs.Fmt.{decimal}
+use Rattle.std.specs.Prelude.{◌==◌, ◌&&◌, ◌∷◌, [], ℕ, ℤ, Bool, List, Option, None, Some, Result, codes, find, if◌then◌else◌, is_some, not, slice_get, unwrap_or}
 use Rattle.std.specs.List.{range_with_len}
 use Rattle.std.specs.Option.{option_and_then, option_map, option_or}
 use Rattle.armcaps_alt.specs.declared.table_entry.Entry.{Entry}
@@ -33,14 +32,6 @@ elf_words =
 -- the word by which a kind is reported
 abbrev pub elf_word : ℕ → List ℕ
 elf_word kind = unwrap_or (slice_get elf_words kind) []
-
--- the text of a kind, as `kind 7 overlap`
-unfoldable pub elf_kind_text : ℕ → List ℕ
-elf_kind_text kind = codes "kind " ++ decimal kind ++ codes " " ++ elf_word kind
-
--- the text of an entry with a kind, as `entry 0: kind 11 site`
-unfoldable pub elf_entry_text : ℕ → ℕ → List ℕ
-elf_entry_text entry kind = codes "entry " ++ decimal entry ++ codes ": " ++ elf_kind_text kind
 
 -- the table of the flat image
 abbrev pub table_in : List ℕ → Layout

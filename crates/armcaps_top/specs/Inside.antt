@@ -4,9 +4,9 @@ use Rattle.std.specs.List.{AllZip}
 use Rattle.armcaps_alt.specs.Entries.{Features, selected_of}
 use Rattle.armcaps_alt.specs.Refusals.{first_refusal}
 use Rattle.armcaps_alt.specs.declared.table_place.Layout.{Layout}
-use Rattle.armcaps_boot.specs.declared.halt.Halt.{Halt}
+use Rattle.armcaps_boot.specs.declared.park_or_panic.Halt.{Halt}
 use Rattle.armcaps_board.specs.Steps.{history}
-use Rattle.armcaps_boot.specs.Admission.{halt_of, steps_made}
+use Rattle.armcaps_boot.specs.ParkOrPanic.{halt_of, steps_made}
 use Rattle.armcaps_boot.specs.After.{IsAfter}
 use Rattle.armcaps_boot.specs.Findings.{findings_after, findings_of}
 use Rattle.armcaps_boot.specs.Outcome.{IsSafe}

@@ -1,7 +1,5 @@
 -- What `jump OFFSET COUNT` writes: the patched image with the jump labels of its table applied, or why it writes none.
--- The texts are this project's own.
-use Rattle.std.specs.Prelude.{ℕ, ◌==◌, ◌+◌, ◌*◌, ◌++◌, nat_lt, if◌then◌else◌, List, length, Option, Some, None, Result, Ok, Err, codes}
-use Rattle.std.specs.Fmt.{decimal}
+use Rattle.std.specs.Prelude.{ℕ, ◌+◌, ◌*◌, nat_lt, if◌then◌else◌, List, length, Option, Some, None, Result, Ok, Err}
 use Rattle.armcaps_board.specs.declared.event.Event.{Event}
 use Rattle.armcaps_board.specs.Board.{Board}
 use Rattle.armcaps_jump.specs.Jumped.{jump_image}
@@ -9,20 +7,9 @@ use Rattle.armcaps_jump.specs.Refusals as labels
 use Rattle.armcaps_jump.specs.Refusals.{first_refusal}
 use Rattle.armcaps_text.specs.Document.{Reading}
 use Rattle.armcaps_top.specs.Patch.{patch_output}
-use Rattle.armcaps_top.specs.declared.commands.jump.LabelsRefused.{LabelsRefused}
 use Rattle.armcaps_top.specs.declared.commands.jump.LabelsRefused.TheVariants.{TableOutside, Entry}
 use Rattle.armcaps_top.specs.declared.reason.Reason.{Reason}
 use Rattle.armcaps_top.specs.declared.reason.Reason.TheVariants.{NotJumped}
-
--- the word of a kind of refused entry: where its code is, where its key is, and its branch
-abbrev pub label_kind_word : ℕ → List ℕ
-label_kind_word kind = if kind == 1 then codes "code" else if kind == 2 then codes "key" else codes "branch"
-
--- why no jump labels are applied, as `table outside` or `entry 0: kind 1 code`
-unfoldable pub labels_refused_text : LabelsRefused → List ℕ
-labels_refused_text TableOutside = codes "table outside"
-labels_refused_text (Entry entry kind) =
-    codes "entry " ++ decimal entry ++ codes ": kind " ++ decimal kind ++ codes " " ++ label_kind_word kind
 
 -- the image, unless an entry of the table is refused
 abbrev pub unless_label_refused : Option labels.Refusal → List ℕ → Result (List ℕ) Reason

@@ -11,8 +11,8 @@ pub mod Answer
 pub mod PooledMachines
 pub mod Laws
 pub mod Features
-pub mod Ending
-pub mod Telling
+pub mod Statuses
+pub mod ErrorLines
 pub mod Run
 pub mod Bringing
 pub mod Inside

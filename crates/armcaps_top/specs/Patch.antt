@@ -1,13 +1,11 @@
 -- What `patch` writes: the image with its selected alternatives, or why it writes none.
-use Rattle.std.specs.Prelude.{ℕ, ◌++◌, List, Option, Some, None, Result, Ok, Err, codes}
-use Rattle.std.specs.Fmt.{decimal}
+use Rattle.std.specs.Prelude.{ℕ, List, Option, Some, None, Result, Ok, Err}
 use Rattle.std.specs.Option.{option_map}
-use Rattle.armcaps_alt.specs.declared.patch_kind.PatchKind.{PatchKind}
 use Rattle.armcaps_alt.specs.declared.table_place.Layout.{Layout}
 use Rattle.armcaps_alt.specs.Entries.{Features}
 use Rattle.armcaps_alt.specs.Patched.{patched_image}
 use Rattle.armcaps_alt.specs.Refusals as alternatives
-use Rattle.armcaps_alt.specs.Refusals.{first_refusal, kind_number, kind_word}
+use Rattle.armcaps_alt.specs.Refusals.{first_refusal}
 use Rattle.armcaps_board.specs.declared.event.Event.{Event}
 use Rattle.armcaps_board.specs.Board.{Board}
 use Rattle.armcaps_boot.specs.Findings.{findings_after}
@@ -15,11 +13,6 @@ use Rattle.armcaps_patch.specs.Features.{features_of_findings}
 use Rattle.armcaps_text.specs.Document.{Reading}
 use Rattle.armcaps_top.specs.declared.reason.Reason.{Reason}
 use Rattle.armcaps_top.specs.declared.reason.Reason.TheVariants.{NotPatched}
-
--- the text of a refused entry, as `entry 0: kind 8 literal`
-unfoldable pub entry_text : ℕ → PatchKind → List ℕ
-entry_text entry kind =
-    codes "entry " ++ decimal entry ++ codes ": kind " ++ decimal (kind_number kind) ++ codes " " ++ kind_word kind
 
 -- why no image is written, where this entry is refused
 abbrev pub not_patched : alternatives.Refusal → Reason

@@ -5,14 +5,14 @@ use Rattle.std.specs.Prelude.{nat_eq}
 use Rattle.std.specs.Result.{IsOkAnd}
 use Rattle.armcaps_io.specs.Causes.{Rose}
 use Rattle.armcaps_io.specs.Streams.{Appends, AppendsPrefix, GivesAtMost, GivesCount, Keeps}
-use Rattle.armcaps_boot.specs.Admission.{steps_made}
+use Rattle.armcaps_boot.specs.ParkOrPanic.{steps_made}
 use Rattle.armcaps_boot.specs.After.{IsAfter}
 use Rattle.armcaps_boot.specs.Outcome.{IsSafe}
 use Rattle.armcaps_boot.specs.World.{World}
 use Rattle.armcaps_top.specs.Answer.{Answer, answer_for, halt_in, refused, steps_of}
 use Rattle.armcaps_top.specs.Document.{Document}
-use Rattle.armcaps_top.specs.Ending.{output_status, status_of}
-use Rattle.armcaps_top.specs.Telling.{Tells}
+use Rattle.armcaps_top.specs.Statuses.{output_status, status_of}
+use Rattle.armcaps_top.specs.ErrorLines.{Tells}
 use Rattle.armcaps_top.specs.declared.commands.Command.{Command}
 use Rattle.armcaps_top.specs.declared.commands.Command.TheVariants.{Ask, Patch, Elf, Jump, Pool, Audit, Demo}
 use Rattle.armcaps_top.specs.declared.commands.Query.TheVariants.{Report, Mrs, Trace}

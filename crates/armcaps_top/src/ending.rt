@@ -20,7 +20,7 @@ pub enum Ending {
 }
 
 impl Ending {
-    ghost use Rattle.armcaps_top.specs.Ending.{status_of};
+    ghost use Rattle.armcaps_top.specs.Statuses.{status_of};
 
     /// The status that the process ends with.
     pub fn status(self) -> u8

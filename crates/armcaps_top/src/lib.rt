@@ -6,6 +6,7 @@ mod bringing;
 mod commands;
 mod document;
 mod ending;
+mod error_lines;
 mod kept_bytes;
 pub mod laws;
 pub mod patch_laws;
@@ -15,7 +16,6 @@ mod reading;
 mod reason;
 mod refusal;
 mod refusing;
-mod telling;
 #[cfg(test)]
 mod tests;
 mod writing;

@@ -17,7 +17,7 @@ use crate::commands::pool::pool;
 use crate::ending::Ending;
 use crate::reading::read_for;
 use crate::reason::Reason;
-use crate::telling::tell;
+use crate::error_lines::tell;
 use crate::writing::write_text;
 use armcaps_boot::Boot;
 use armcaps_io::{Sink, Source};

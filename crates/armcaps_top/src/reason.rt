@@ -34,7 +34,7 @@ pub enum Reason {
 
 impl Reason {
     ghost use Rattle.std.specs.Prelude.{◌≡◌};
-    ghost use Rattle.armcaps_top.specs.Ending.{reason_status};
+    ghost use Rattle.armcaps_top.specs.Statuses.{reason_status};
 
     /// The status that the process ends with.
     pub fn status(self) -> u8

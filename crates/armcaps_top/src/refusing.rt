@@ -3,7 +3,7 @@
 ghost use Rattle.armcaps_report.specs.Extending.{Extends};
 ghost use Rattle.armcaps_text.specs.Texts.{texts_refusal_text};
 ghost use Rattle.armcaps_text.specs.declared.texts.TextsRefused.TheVariants as texts_refused;
-ghost use Rattle.armcaps_top.specs.Document.{refused_text};
+ghost use Rattle.armcaps_top.specs.ErrorLines.{refused_text};
 ghost use Rattle.armcaps_top.specs.declared.refusal.Refusal.TheVariants as Refusal;
 
 use crate::refusal::Refusal;
@@ -24,7 +24,7 @@ pub fn push_refusal<T: Text>(text: &mut T, refusal: Refusal) -> Result<(), T::Er
 }
 
 // Adds where a text is refused, and why.
-#[tactic(auto, unfolding(crate::specs::Document::refused_text, armcaps_text::specs::Refusal::refusal_text))]
+#[tactic(auto, unfolding(crate::specs::ErrorLines::refused_text, armcaps_text::specs::Refusal::refusal_text))]
 fn push_place<T: Text>(text: &mut T, line: u32, kind: TextKind) -> Result<(), T::Error>
     ensures { Extends result T.refused_from (T.bytes text.old) (T.bytes text.new)
         (refused_text (Refusal.Line line kind)) }
@@ -33,7 +33,7 @@ fn push_place<T: Text>(text: &mut T, line: u32, kind: TextKind) -> Result<(), T:
 }
 
 // Adds how many bytes an input may have.
-#[tactic(auto, unfolding(crate::specs::Document::refused_text))]
+#[tactic(auto, unfolding(crate::specs::ErrorLines::refused_text))]
 fn push_limit<T: Text>(text: &mut T, limit: usize) -> Result<(), T::Error>
     ensures { Extends result T.refused_from (T.bytes text.old) (T.bytes text.new)
         (refused_text (Refusal.TooLong limit)) }
@@ -42,7 +42,7 @@ fn push_limit<T: Text>(text: &mut T, limit: usize) -> Result<(), T::Error>
 }
 
 // Adds how many bytes of an image are there.
-#[tactic(auto, unfolding(crate::specs::Document::refused_text))]
+#[tactic(auto, unfolding(crate::specs::ErrorLines::refused_text))]
 fn push_shortage<T: Text>(text: &mut T, got: usize, of: u32) -> Result<(), T::Error>
     ensures { Extends result T.refused_from (T.bytes text.old) (T.bytes text.new)
         (refused_text (Refusal.ImageShort got of)) }
@@ -51,7 +51,7 @@ fn push_shortage<T: Text>(text: &mut T, got: usize, of: u32) -> Result<(), T::Er
 }
 
 // Adds how many bytes follow a document.
-#[tactic(auto, unfolding(crate::specs::Document::refused_text))]
+#[tactic(auto, unfolding(crate::specs::ErrorLines::refused_text))]
 fn push_trailing<T: Text>(text: &mut T, extra: usize) -> Result<(), T::Error>
     ensures { Extends result T.refused_from (T.bytes text.old) (T.bytes text.new)
         (refused_text (Refusal.Trailing extra)) }
@@ -60,7 +60,7 @@ fn push_trailing<T: Text>(text: &mut T, extra: usize) -> Result<(), T::Error>
 }
 
 // Adds why texts that stand one after the other are refused.
-#[tactic(auto, unfolding(crate::specs::Document::refused_text, armcaps_text::specs::Texts::texts_refusal_text))]
+#[tactic(auto, unfolding(crate::specs::ErrorLines::refused_text, armcaps_text::specs::Texts::texts_refusal_text))]
 fn push_texts_refused<T: Text>(text: &mut T, refused: TextsRefused) -> Result<(), T::Error>
     ensures { Extends result T.refused_from (T.bytes text.old) (T.bytes text.new)
         (refused_text (Refusal.Texts refused)) }
@@ -75,7 +75,7 @@ fn push_texts_refused<T: Text>(text: &mut T, refused: TextsRefused) -> Result<()
 }
 
 // Adds where one of several texts is refused, and why.
-#[tactic(auto, unfolding(crate::specs::Document::refused_text, armcaps_text::specs::Texts::texts_refusal_text))]
+#[tactic(auto, unfolding(crate::specs::ErrorLines::refused_text, armcaps_text::specs::Texts::texts_refusal_text))]
 fn push_text_refused<T: Text>(
     text: &mut T,
     number: u32,

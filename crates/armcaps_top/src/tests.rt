@@ -1,5 +1,6 @@
 mod auditing;
 mod elves;
+mod error_lines;
 mod jumping;
 mod patching;
 mod pooling;
@@ -9,7 +10,8 @@ mod streams;
 use crate::run;
 use armcaps_boot::{Boot, CoreState};
 use armcaps_io::{MemSink, Source, SureSource};
-use rows::{MACHINES, NUMBERS, REFUSALS};
+use error_lines::ERROR_LINES;
+use rows::{MACHINES, NUMBERS};
 use std::alloc::{AllocError, Global};
 use std::process::Abort;
 use std::str::Lines;
@@ -191,10 +193,10 @@ fn numbers(rt: HostRuntime) -> Result<(), Fail> {
     Ok(())
 }
 
-/// The answers where the input is no document, or a step stops the machine.
+/// The lines on the error stream, with their statuses.
 #[test]
-fn refusals(rt: HostRuntime) -> Result<(), Fail> {
-    for row in REFUSALS.split("== ").skip(1) {
+fn lines_of_statuses(rt: HostRuntime) -> Result<(), Fail> {
+    for row in ERROR_LINES.split("== ").skip(1) {
         row_holds(&rt, rt.alloc(), row)?;
     }
     Ok(())

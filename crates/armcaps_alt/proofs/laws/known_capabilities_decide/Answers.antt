@@ -1,4 +1,4 @@
-use Rattle.armcaps_alt.proofs.Agreeing.{patched_alike, refused_alike}
+use Rattle.armcaps_alt.proofs.KnownCapabilities.{patched_alike, refused_alike}
 use Rattle.armcaps_alt.proofs.laws.known_capabilities_decide.Goals as goal
 
 pub returns-clause-refused : goal.returns-clause-refused

@@ -1,5 +1,5 @@
 use Rattle.armcaps_alt.proofs.Accepting.{selected_accepted}
-use Rattle.armcaps_alt.proofs.Replacing.{replaces_sites}
+use Rattle.armcaps_alt.proofs.ReplacedSites.{replaces_sites}
 use Rattle.armcaps_alt.proofs.laws.the_last_entry_replaces.Goals as goal
 
 pub returns-clause-accepted : goal.returns-clause-accepted

@@ -1,4 +1,4 @@
-use Rattle.armcaps_boot.proofs.Holding.{admitted_by_state, early_by_state, late_by_state}
+use Rattle.armcaps_boot.proofs.HeldBack.{admitted_by_state, early_by_state, late_by_state}
 use Rattle.armcaps_boot.proofs.ShorterHistories.{admitted_listed, admitted_shorter, early_listed}
 use Rattle.armcaps_boot.proofs.laws.sets_are_those_of_the_steps.Goals as goal
 

@@ -3,7 +3,7 @@ use Rattle.std.specs.Prelude.{reverse, Ok}
 use Rattle.armcaps_board.specs.declared.event.Event.{Event}
 use Rattle.armcaps_board.specs.declared.event.Event.TheVariants.{Check}
 use Rattle.armcaps_board.specs.Board.{Board}
-use Rattle.armcaps_boot.specs.Bringing.{IsAt, steps_before}
+use Rattle.armcaps_boot.specs.StepByStep.{IsAt, steps_before}
 use Rattle.armcaps_report.specs.Trace.{lines_of_steps, step_lines, trace_of}
 use Rattle.armcaps_boot.proofs.Brought.{board_kept, finished, goes_on, halt_found, stopped}
 use Rattle.armcaps_boot.proofs.StepByStep.{none_of, some_of}

@@ -1,6 +1,6 @@
 use Rattle.std.proofs.Common.{◌≡◌, ◌++◌, codes, string_bytes}
 use Rattle.std.specs.Prelude.{reverse}
-use Rattle.armcaps_boot.specs.Bringing.{IsAt, steps_before}
+use Rattle.armcaps_boot.specs.StepByStep.{IsAt, steps_before}
 use Rattle.armcaps_report.specs.Trace.{lines_of_steps}
 use Rattle.armcaps_report.proofs.tracing.trace.Given as goal
 

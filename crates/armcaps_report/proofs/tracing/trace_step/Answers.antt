@@ -4,7 +4,7 @@ use Rattle.armcaps_board.specs.declared.event.Event.{Event}
 use Rattle.armcaps_board.specs.declared.event.Event.TheVariants.{Check}
 use Rattle.armcaps_boot.specs.declared.reply.Reply.{Reply}
 use Rattle.armcaps_board.specs.Board.{Board}
-use Rattle.armcaps_boot.specs.Bringing.{steps_before}
+use Rattle.armcaps_boot.specs.StepByStep.{steps_before}
 use Rattle.armcaps_report.specs.Trace.{admitted_by, changed_lines, step_line, step_lines}
 use Rattle.armcaps_boot.proofs.StepByStep.{steps_more}
 use Rattle.armcaps_report.proofs.Pieces.{two_pieces}

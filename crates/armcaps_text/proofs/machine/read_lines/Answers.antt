@@ -5,13 +5,13 @@ use Rattle.std.proofs.lemmas.Result.{err_from_is_err_and}
 use Rattle.armcaps_alt.specs.Names.{IsKnown}
 use Rattle.armcaps_text.specs.Before.{Before}
 use Rattle.armcaps_text.specs.Document.{Reads}
-use Rattle.armcaps_text.specs.Kinds.{kind_after}
+use Rattle.armcaps_text.specs.KindAtLine.{kind_after}
 use Rattle.armcaps_text.specs.Learned.{learned}
 use Rattle.armcaps_text.specs.Meaning.{line_of, is_last}
 use Rattle.armcaps_text.specs.Reader.{so_far}
 use Rattle.armcaps_text.proofs.KnownNames.{numbers_known}
 use Rattle.armcaps_text.proofs.LastLine.{boot_known, image_known}
-use Rattle.armcaps_text.proofs.Walk.{Walked, starts, learnt_next, goes_on, read, ended, refused_there}
+use Rattle.armcaps_text.proofs.FirstLineWithKind.{Walked, starts, learnt_next, goes_on, read, ended, refused_there}
 use Rattle.armcaps_text.proofs.machine.read_lines.Goals as goal
 
 pub loop-line-init : goal.loop-line-init

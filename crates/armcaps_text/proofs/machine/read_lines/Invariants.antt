@@ -1,6 +1,6 @@
 use Rattle.std.proofs.Common.{length}
 use Rattle.armcaps_text.specs.Reader.{so_far}
-use Rattle.armcaps_text.proofs.Walk.{Walked}
+use Rattle.armcaps_text.proofs.FirstLineWithKind.{Walked}
 use Rattle.armcaps_text.proofs.machine.read_lines.Given as goal
 
 abbrev pub invariant-loop-line : goal.invariant-loop-line

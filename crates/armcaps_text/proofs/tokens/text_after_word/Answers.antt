@@ -1,5 +1,5 @@
 use Rattle.std.proofs.Common.{refl, sym, ◌∙◌}
-use Rattle.armcaps_text.proofs.TokenLemmas.{text_none}
+use Rattle.armcaps_text.proofs.TextAfterWord.{text_none}
 use Rattle.armcaps_text.proofs.tokens.text_after_word.Goals as goal
 
 pub returns-in-None : goal.returns-in-None

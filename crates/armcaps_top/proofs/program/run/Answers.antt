@@ -1,7 +1,7 @@
 use Rattle.std.proofs.Common.{◌≡◌, Option, Some, map, string_bytes, subst, sym, refl, ◌∙◌}
 use Rattle.armcaps_top.specs.Commands.{command_of}
 use Rattle.armcaps_top.specs.Inside.{AreCoresGiven}
-use Rattle.armcaps_top.specs.Telling.{Tells}
+use Rattle.armcaps_top.specs.ErrorLines.{Tells}
 use Rattle.armcaps_top.specs.declared.commands.Command.{Command}
 use Rattle.armcaps_top.specs.declared.ending.Ending.{Ending}
 use Rattle.armcaps_top.proofs.Promising.{promised, promised_nothing}

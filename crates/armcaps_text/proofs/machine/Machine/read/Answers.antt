@@ -2,8 +2,8 @@ use Rattle.std.proofs.Common.{length, sym, ap, subst, ◌∙◌, arith}
 use Rattle.std.proofs.lemmas.Result.{err_from_is_err_and}
 use Rattle.armcaps_text.specs.Document.{Outcome, IsRefusal, reading_of}
 use Rattle.armcaps_text.proofs.Readings.{sound_reading}
-use Rattle.armcaps_text.proofs.Walk.{outcome_named}
-use Rattle.armcaps_text.proofs.LineLemmas.{mebibyte_least, mebibyte_within}
+use Rattle.armcaps_text.proofs.FirstLineWithKind.{outcome_named}
+use Rattle.armcaps_text.proofs.FirstLine.{mebibyte_least, mebibyte_within}
 use Rattle.armcaps_text.proofs.machine.Machine.read.Goals as goal
 
 pub read_lines-requires : goal.read_lines-requires

@@ -2,7 +2,7 @@ use Rattle.std.proofs.Common.{List, ap, ◌∙◌}
 use Rattle.armcaps_board.specs.Order.{is_some_in_flight}
 use Rattle.armcaps_board.specs.Steps.{history}
 use Rattle.armcaps_board.specs.declared.step_line.StepLine.{StepLine}
-use Rattle.armcaps_text.proofs.StepLemmas.{flight_known}
+use Rattle.armcaps_text.proofs.StepsInTurn.{flight_known}
 use Rattle.armcaps_text.proofs.steps.Steps.is_some_in_flight.Goals as goal
 
 pub returns : goal.returns

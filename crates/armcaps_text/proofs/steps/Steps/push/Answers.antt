@@ -1,7 +1,7 @@
 use Rattle.std.proofs.Common.{sym, ap, ◌∙◌, arith, sum_by}
 use Rattle.armcaps_board.specs.Steps.{core_of}
 use Rattle.armcaps_text.specs.Kept.{one_begun}
-use Rattle.armcaps_text.proofs.StepLemmas.{kept_step, kept_final}
+use Rattle.armcaps_text.proofs.StepsInTurn.{kept_step, kept_final}
 use Rattle.armcaps_text.proofs.steps.Steps.push.Goals as goal
 
 pub invariant_of-self-in-Some : goal.invariant_of-self-in-Some

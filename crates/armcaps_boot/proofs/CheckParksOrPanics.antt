@@ -10,15 +10,16 @@ use Rattle.armcaps_boot.specs.declared.reply.Reply.TheVariants.{Done, Parked, Pa
 use Rattle.armcaps_board.specs.Board.{Board}
 use Rattle.armcaps_board.specs.Order.{is_fresh_last}
 use Rattle.armcaps_board.specs.Steps.{last_step}
-use Rattle.armcaps_boot.specs.Admission.{came_early, early_cores_after, halt_for, held_back, was_verified}
+use Rattle.armcaps_boot.specs.Admission.{came_early, early_cores_after, was_verified}
+use Rattle.armcaps_boot.specs.ParkOrPanic.{halt_for, held_back, stops_machine}
 use Rattle.armcaps_boot.specs.After.{past_from, reply_from, reply_of, state_from}
 use Rattle.armcaps_boot.specs.Answers.{check_answer, judged, live_answer}
-use Rattle.armcaps_boot.specs.Causes.{cause_at_check, cause_at_verification, stops_machine}
+use Rattle.armcaps_boot.specs.Causes.{cause_at_check, cause_at_verification}
 use Rattle.armcaps_boot.specs.States.{past_of}
 use Rattle.armcaps_boot.specs.World.{World, state_at}
 use Rattle.armcaps_boot.proofs.Answering.{IsTurnIn, IsAnswered, IsHeldIn, after_moved, check_is, held_in, judged_reply, numbered_in, parked_state, panicked_state, past-same, past_in, running_in, shows, stepped_if_held}
 use Rattle.armcaps_boot.proofs.Histories.{early-same, come-same, verified-same}
-use Rattle.armcaps_boot.proofs.Holding.{held_is}
+use Rattle.armcaps_boot.proofs.HeldBack.{held_is}
 use Rattle.armcaps_boot.proofs.OwnSteps.{own_number, check_own, skipped, state_next, held_own, early_first, check_held}
 
 fresh_answer : (last : Option Event) (cause : Option Cause) (was : Past) → is_fresh_last last ≡ true → check_answer cause (state_from last None was) ≡ judged cause

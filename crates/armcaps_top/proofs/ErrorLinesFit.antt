@@ -21,13 +21,9 @@ use Rattle.armcaps_text.specs.declared.texts.TextsRefused.{TextsRefused}
 use Rattle.armcaps_text.specs.declared.texts.TextsRefused.TheVariants as texts_refused
 use Rattle.armcaps_text.specs.declared.kind.TextKind.{TextKind}
 use Rattle.armcaps_text.specs.declared.kind.TextKind.TheVariants.{Header, Unfinished, TextTooLong, UnknownLine, Order, Tokens, Number, Name, Twice, CoreNumber, TooMany, BootStep, Turn, Finalise, Incomplete, CmdlineTooLong, TableOutside}
-use Rattle.armcaps_top.specs.Document.{refused_text}
-use Rattle.armcaps_top.specs.Elf.{elf_entry_text, elf_kind_text, elf_word, elf_words}
-use Rattle.armcaps_top.specs.Ending.{ending_text, halt_text, reason_text}
-use Rattle.armcaps_top.specs.Jump.{label_kind_word, labels_refused_text}
+use Rattle.armcaps_top.specs.ErrorLines.{elf_entry_text, elf_kind_text, ending_line, ending_text, entry_text, halt_text, label_kind_word, labels_refused_text, reason_text, refused_text}
+use Rattle.armcaps_top.specs.Elf.{elf_word, elf_words}
 use Rattle.armcaps_report.specs.UserReads.{eight_digits, read_refused_text}
-use Rattle.armcaps_top.specs.Patch.{entry_text}
-use Rattle.armcaps_top.specs.Telling.{ending_line}
 use Rattle.armcaps_top.specs.declared.commands.jump.LabelsRefused.{LabelsRefused}
 use Rattle.armcaps_top.specs.declared.commands.jump.LabelsRefused.TheVariants as labels_refused
 use Rattle.armcaps_report.specs.declared.user_reads.ReadRefused.{ReadRefused}

@@ -8,7 +8,7 @@ use Rattle.std.proofs.lemmas.List.Sums.{sum_by-append, sum_by-cons}
 use Rattle.armcaps_text.specs.Before.{Before, before}
 use Rattle.armcaps_text.specs.Document.{Reads, Refuses, bytes_of, ends_at, kind_at, refused_or, outcome_at, outcome_after, reading_after, unended_kind, outcome_of_lines, outcome, IsRefusal, IsRefusalAt}
 use Rattle.armcaps_text.specs.Formats.{format_named}
-use Rattle.armcaps_text.specs.Kinds.{kind_after}
+use Rattle.armcaps_text.specs.KindAtLine.{kind_after}
 use Rattle.armcaps_text.specs.Learned.{learned}
 use Rattle.armcaps_text.specs.Lines.{ended_lines, first_mebibyte}
 use Rattle.armcaps_text.specs.Meaning.{line_of, is_last}
@@ -18,7 +18,7 @@ use Rattle.armcaps_text.specs.declared.kind.TextKind.TheVariants as kind
 use Rattle.armcaps_text.specs.declared.kind.TextRefused.{TextRefused}
 use Rattle.armcaps_text.specs.declared.kind.TextRefused.TheVariants as refused
 use Rattle.armcaps_text.specs.declared.line.Line.{Line}
-use Rattle.armcaps_text.proofs.LineByLine.{before-push}
+use Rattle.armcaps_text.proofs.OneMoreLine.{before-push}
 use Rattle.std.proofs.Math.Bool.{or-true}
 use Rattle.armcaps_logic.proofs.Lists.{drop-map, take-map}
 

@@ -1,9 +1,9 @@
-// What is wrong with a line, by what the lines before it come to.
+// The kinds of refusal at a line, by what the lines before it come to: the lowest that holds is `kind_at`.
 ghost use Rattle.std.specs.Prelude.{◌≡◌, ◌==◌, length, nat_lt};
 ghost use Rattle.std.specs.FinMap.{contains_key};
 ghost use Rattle.std.specs.List.{list_any};
 ghost use Rattle.armcaps_enc.specs.Registers.{place_of};
-ghost use Rattle.armcaps_text.specs.Kinds.{is_skipped, is_unknown, is_second_header, has_one_line, is_in_passed_section, is_form_of_core, tells_of_core, lacks_core, lacks_boot, is_out_of_order, has_wrong_count, has_wrong_number, has_wrong_name, is_twice, has_wrong_core_number, is_one_core_too_many, is_boot_step, is_out_of_turn, is_untimely, is_incomplete, is_command_line_too_long, is_table_outside, kind_after};
+ghost use Rattle.armcaps_text.specs.KindAtLine.{is_skipped, is_unknown, is_second_header, has_one_line, is_in_passed_section, is_form_of_core, tells_of_core, lacks_core, lacks_boot, is_out_of_order, has_wrong_count, has_wrong_number, has_wrong_name, is_twice, has_wrong_core_number, is_one_core_too_many, is_boot_step, is_out_of_turn, is_untimely, is_incomplete, is_command_line_too_long, is_table_outside, kind_after};
 ghost use Rattle.armcaps_text.specs.Meaning.{plain};
 ghost use Rattle.armcaps_text.specs.Reader.{so_far};
 
@@ -231,7 +231,7 @@ impl Reader<'_> {
     }
 
     /// The lowest kind that holds at a line after line 1.
-    #[tactic(auto, unfolding(crate::specs::Kinds::kind_after))]
+    #[tactic(auto, unfolding(crate::specs::KindAtLine::kind_after))]
     pub fn kind_at(&self, format: Format, line: &Line<&[u8]>) -> Option<TextKind>
         ensures { result ≡ kind_after format (so_far self.now) (plain line.now) }
     {

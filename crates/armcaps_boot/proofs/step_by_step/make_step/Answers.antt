@@ -3,9 +3,9 @@ use Rattle.std.specs.Prelude.{List}
 use Rattle.armcaps_board.specs.declared.event.Event.{Event}
 use Rattle.armcaps_board.specs.declared.event.Event.TheVariants.{Check}
 use Rattle.armcaps_boot.specs.After.{IsAfter, reply_of}
-use Rattle.armcaps_boot.specs.Bringing.{steps_before}
+use Rattle.armcaps_boot.specs.StepByStep.{steps_before}
 use Rattle.armcaps_boot.proofs.StepByStep.{comes_next, ok_same, steps_more}
-use Rattle.armcaps_boot.proofs.bringing.make_step.Goals as goal
+use Rattle.armcaps_boot.proofs.step_by_step.make_step.Goals as goal
 
 pub unwrap-requires : goal.unwrap-requires
 unwrap-requires c =

@@ -5,11 +5,7 @@ ghost use Rattle.std.specs.Fmt.{decimal};
 ghost use Rattle.armcaps_report.specs.Extending.{Extends};
 ghost use Rattle.armcaps_report.specs.Texts.{cause_text};
 ghost use Rattle.armcaps_report.specs.UserReads.{read_refused_text};
-ghost use Rattle.armcaps_top.specs.Elf.{elf_entry_text, elf_kind_text};
-ghost use Rattle.armcaps_top.specs.Ending.{ending_text, halt_text, reason_text};
-ghost use Rattle.armcaps_top.specs.Jump.{label_kind_word, labels_refused_text};
-ghost use Rattle.armcaps_top.specs.Patch.{entry_text};
-ghost use Rattle.armcaps_top.specs.Telling.{Tells, ending_line};
+ghost use Rattle.armcaps_top.specs.ErrorLines.{Tells, elf_entry_text, elf_kind_text, ending_line, ending_text, entry_text, halt_text, label_kind_word, labels_refused_text, reason_text};
 
 use crate::commands::elf::elf_word;
 use crate::commands::jump::LabelsRefused;
@@ -54,7 +50,7 @@ fn push_line<T: Text>(text: &mut T, ending: Ending) -> Result<(), T::Error>
 }
 
 // Adds an ending's text.
-#[tactic(auto, unfolding(crate::specs::Ending::ending_text))]
+#[tactic(auto, unfolding(crate::specs::ErrorLines::ending_text))]
 fn push_ending<T: Text>(text: &mut T, ending: Ending) -> Result<(), T::Error>
     ensures { Extends result T.refused_from (T.bytes text.old) (T.bytes text.new) (ending_text ending) }
 {
@@ -68,7 +64,7 @@ fn push_ending<T: Text>(text: &mut T, ending: Ending) -> Result<(), T::Error>
 }
 
 // Adds a reason.
-#[tactic(auto, unfolding(crate::specs::Ending::reason_text))]
+#[tactic(auto, unfolding(crate::specs::ErrorLines::reason_text))]
 fn push_reason<T: Text>(text: &mut T, reason: Reason) -> Result<(), T::Error>
     ensures { Extends result T.refused_from (T.bytes text.old) (T.bytes text.new) (reason_text reason) }
 {
@@ -90,7 +86,7 @@ fn push_reason<T: Text>(text: &mut T, reason: Reason) -> Result<(), T::Error>
 }
 
 // Adds what stopped a machine, as a panic.
-#[tactic(auto, unfolding(crate::specs::Ending::halt_text))]
+#[tactic(auto, unfolding(crate::specs::ErrorLines::halt_text))]
 fn push_panic<T: Text>(text: &mut T, halt: Halt) -> Result<(), T::Error>
     ensures { Extends result T.refused_from (T.bytes text.old) (T.bytes text.new) (codes "panic: " ++ halt_text halt) }
 {
@@ -107,7 +103,7 @@ fn push_machine_panic<T: Text>(text: &mut T, machine: u32, halt: Halt) -> Result
 }
 
 // Adds which entry of a table is refused, and why.
-#[tactic(auto, unfolding(crate::specs::Patch::entry_text))]
+#[tactic(auto, unfolding(crate::specs::ErrorLines::entry_text))]
 fn push_not_patched<T: Text>(text: &mut T, entry: u32, kind: PatchKind) -> Result<(), T::Error>
     ensures { Extends result T.refused_from (T.bytes text.old) (T.bytes text.new)
         (codes "patch: " ++ entry_text entry kind) }
@@ -116,7 +112,7 @@ fn push_not_patched<T: Text>(text: &mut T, entry: u32, kind: PatchKind) -> Resul
 }
 
 // Adds why an ELF file is refused.
-#[tactic(auto, unfolding(crate::specs::Elf::elf_kind_text))]
+#[tactic(auto, unfolding(crate::specs::ErrorLines::elf_kind_text))]
 fn push_not_elf<T: Text>(text: &mut T, kind: u8) -> Result<(), T::Error>
     ensures { Extends result T.refused_from (T.bytes text.old) (T.bytes text.new)
         (codes "elf: " ++ elf_kind_text kind) }
@@ -126,7 +122,7 @@ fn push_not_elf<T: Text>(text: &mut T, kind: u8) -> Result<(), T::Error>
 }
 
 // Adds which entry of an ELF file isn't loaded, and why.
-#[tactic(auto, unfolding(crate::specs::Elf::elf_entry_text, crate::specs::Elf::elf_kind_text))]
+#[tactic(auto, unfolding(crate::specs::ErrorLines::elf_entry_text, crate::specs::ErrorLines::elf_kind_text))]
 fn push_not_loaded<T: Text>(text: &mut T, entry: u32, kind: u8) -> Result<(), T::Error>
     ensures { Extends result T.refused_from (T.bytes text.old) (T.bytes text.new)
         (codes "elf: " ++ elf_entry_text entry kind) }
@@ -144,7 +140,7 @@ fn push_not_jumped<T: Text>(text: &mut T, refused: LabelsRefused) -> Result<(), 
 }
 
 // Adds why no jump labels are applied.
-#[tactic(auto, unfolding(crate::specs::Jump::labels_refused_text))]
+#[tactic(auto, unfolding(crate::specs::ErrorLines::labels_refused_text))]
 fn push_labels_refused<T: Text>(text: &mut T, refused: LabelsRefused) -> Result<(), T::Error>
     ensures { Extends result T.refused_from (T.bytes text.old) (T.bytes text.new) (labels_refused_text refused) }
 {

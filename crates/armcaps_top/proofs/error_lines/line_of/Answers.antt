@@ -1,7 +1,7 @@
 use Rattle.std.proofs.Common.{ap, arith, length}
 use Rattle.armcaps_report.proofs.Extending.{taken_with_room}
-use Rattle.armcaps_top.proofs.ShortLines.{ending_line_short}
-use Rattle.armcaps_top.proofs.telling.line_of.Goals as goal
+use Rattle.armcaps_top.proofs.ErrorLinesFit.{ending_line_short}
+use Rattle.armcaps_top.proofs.error_lines.line_of.Goals as goal
 
 pub returns : goal.returns
 returns c =

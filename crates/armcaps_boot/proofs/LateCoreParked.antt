@@ -10,10 +10,11 @@ use Rattle.armcaps_boot.specs.declared.reply.Reply.TheVariants.{Done, Parked}
 use Rattle.armcaps_board.specs.Board.{Board}
 use Rattle.armcaps_board.specs.Order.{is_checked_last}
 use Rattle.armcaps_board.specs.Steps.{is_final, last_step}
-use Rattle.armcaps_boot.specs.Admission.{came_early, early_cores_after, has_come, held_back, was_verified}
+use Rattle.armcaps_boot.specs.Admission.{came_early, early_cores_after, has_come, was_verified}
+use Rattle.armcaps_boot.specs.ParkOrPanic.{held_back, stops_machine}
 use Rattle.armcaps_boot.specs.After.{past_from, reply_from, reply_of, state_from}
 use Rattle.armcaps_boot.specs.Answers.{cause_at_local, judged, live_answer, local_answer}
-use Rattle.armcaps_boot.specs.Causes.{cause_at_check, cause_at_verification, stops_machine}
+use Rattle.armcaps_boot.specs.Causes.{cause_at_check, cause_at_verification}
 use Rattle.armcaps_boot.specs.Changes.{noted_with}
 use Rattle.armcaps_boot.specs.States.{is_admitted, is_admitted_past, past_of}
 use Rattle.armcaps_boot.specs.World.{World, early_cores, state_at}
@@ -21,10 +22,10 @@ use Rattle.armcaps_boot.proofs.Answering.{IsTurnIn, IsAnswered, after_moved, jud
 use Rattle.std.proofs.lemmas.Bool.{or_left, or_right}
 use Rattle.armcaps_board.proofs.Turns.{last-own}
 use Rattle.armcaps_boot.proofs.Histories.{early-same, come-same, verified_final}
-use Rattle.armcaps_boot.proofs.Holding.{held_from, held_is, late-final, past_by}
+use Rattle.armcaps_boot.proofs.HeldBack.{held_from, held_is, late-final, past_by}
 use Rattle.armcaps_boot.proofs.StepLaw.{misfit_does_not_stop}
 use Rattle.armcaps_boot.proofs.OwnSteps.{own_number, local_own, skipped, state_next, stepped_by, no_early}
-use Rattle.armcaps_boot.proofs.CheckStep.{goes_reply}
+use Rattle.armcaps_boot.proofs.CheckParksOrPanics.{goes_reply}
 
 checked_answer : (last : Option Event) (cause : Option Cause) (was : Past) → is_checked_last last ≡ true → local_answer cause (state_from last None was) ≡ judged cause
 checked_answer (Some (Check c)) cause was h = refl

@@ -1,6 +1,6 @@
 use Rattle.std.proofs.Common.{sym, ◌∙◌}
 use Rattle.armcaps_boot.proofs.Brought.{finished, stopped}
-use Rattle.armcaps_boot.proofs.bringing.bring_up.Goals as goal
+use Rattle.armcaps_boot.proofs.step_by_step.bring_up.Goals as goal
 
 pub returns-in-Some-clause-halt : goal.returns-in-Some-clause-halt
 returns-in-Some-clause-halt c =

@@ -14,9 +14,10 @@ use Rattle.armcaps_boot.specs.declared.past.Past.TheVariants.{Never, Early, Late
 use Rattle.armcaps_board.specs.Board.{Board}
 use Rattle.armcaps_board.specs.Order.{in_order, is_up_last}
 use Rattle.armcaps_board.specs.Steps.{is_final, is_step_of, last_step}
-use Rattle.armcaps_boot.specs.Admission.{came_early, early_cores_after, has_come, held_back, is_among_admitted, is_among_early, is_among_late, was_verified}
+use Rattle.armcaps_boot.specs.Admission.{came_early, early_cores_after, has_come, is_among_admitted, is_among_early, is_among_late, was_verified}
+use Rattle.armcaps_boot.specs.ParkOrPanic.{held_back, stops_machine}
 use Rattle.armcaps_boot.specs.After.{past_from, state_from, state_of}
-use Rattle.armcaps_boot.specs.Causes.{cause_at_check, cause_at_verification, stops_machine}
+use Rattle.armcaps_boot.specs.Causes.{cause_at_check, cause_at_verification}
 use Rattle.armcaps_boot.specs.States.{is_admitted, is_admitted_past, is_early, is_early_past, is_late, is_late_past, past_of}
 use Rattle.armcaps_boot.proofs.ChosenCores.{chosen-same}
 use Rattle.armcaps_board.proofs.Turns.{last-other, last-own}

@@ -2,13 +2,13 @@
 
 ghost use Rattle.std.specs.Prelude.{◌≡◌, ◌<◌, ◌+◌, length, reverse, slice_index_or};
 ghost use Rattle.armcaps_board.specs.declared.event.Event.TheVariants as Event;
-ghost use Rattle.armcaps_boot.specs.Admission.{halt_of, steps_made};
+ghost use Rattle.armcaps_boot.specs.ParkOrPanic.{halt_of, steps_made};
 ghost use Rattle.armcaps_boot.specs.After.{IsAfter, reply_of};
-ghost use Rattle.armcaps_boot.specs.Bringing.{IsAt, steps_before};
+ghost use Rattle.armcaps_boot.specs.StepByStep.{IsAt, steps_before};
 
 use crate::boot::Boot;
-use crate::halt::Halt;
 use crate::laws::steps_are_answered;
+use crate::park_or_panic::Halt;
 use crate::reply::Reply;
 use armcaps_board::Event;
 

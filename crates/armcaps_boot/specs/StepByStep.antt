@@ -3,7 +3,7 @@ use Rattle.std.specs.Prelude.{◌≡◌, ℕ, true, List, take, reverse, None}
 use Rattle.armcaps_board.specs.declared.event.Event.{Event}
 use Rattle.armcaps_board.specs.Board.{Board}
 use Rattle.armcaps_board.specs.Order.{in_order}
-use Rattle.armcaps_boot.specs.Admission.{halt_of}
+use Rattle.armcaps_boot.specs.ParkOrPanic.{halt_of}
 use Rattle.armcaps_boot.specs.After.{IsAfter}
 use Rattle.armcaps_boot.specs.World.{World}
 

@@ -1,5 +1,5 @@
-use Rattle.armcaps_top.specs.Patch.{entry_text}
-use Rattle.armcaps_top.proofs.telling.push_not_patched.Goals as goal
+use Rattle.armcaps_top.specs.ErrorLines.{entry_text}
+use Rattle.armcaps_top.proofs.error_lines.push_not_patched.Goals as goal
 
 pub returns : goal.returns
 unfolding entry_text

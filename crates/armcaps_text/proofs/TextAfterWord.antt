@@ -3,7 +3,7 @@ use Rattle.std.proofs.Common.{◌≡◌, ℕ, ◌+◌, ◌-◌, Bool, not, List,
 use Rattle.std.specs.List.{position, position_or_len, after_first}
 use Rattle.std.proofs.lemmas.Grind.{common_steps}
 use Rattle.armcaps_logic.proofs.Searches.{position_some}
-use Rattle.armcaps_text.proofs.LineLemmas.{position_none}
+use Rattle.armcaps_text.proofs.FirstLine.{position_none}
 use Rattle.armcaps_text.specs.Tokens.{is_space, text_after_word}
 
 abbrev no_space : ℕ → Bool
