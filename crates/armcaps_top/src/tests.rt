@@ -1,4 +1,5 @@
 mod auditing;
+mod demo;
 mod elves;
 mod error_lines;
 mod jumping;
@@ -10,8 +11,9 @@ mod streams;
 use crate::run;
 use armcaps_boot::{Boot, CoreState};
 use armcaps_io::{MemSink, Source, SureSource};
+use demo::NUMBERS;
 use error_lines::ERROR_LINES;
-use rows::{MACHINES, NUMBERS};
+use rows::MACHINES;
 use std::alloc::{AllocError, Global};
 use std::process::Abort;
 use std::str::Lines;
@@ -184,7 +186,7 @@ fn machines(rt: HostRuntime) -> Result<(), Fail> {
     Ok(())
 }
 
-/// The answers on numbers, where the input is no document and not read.
+/// The answers of `demo` on numbers, where the input is no document and not read.
 #[test]
 fn numbers(rt: HostRuntime) -> Result<(), Fail> {
     for row in NUMBERS.split("== ").skip(1) {
