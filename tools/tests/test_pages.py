@@ -27,7 +27,7 @@ class Statuses(unittest.TestCase):
 
     def test_kinds(self):
         defined = [self.named("armcaps_text/specs/Refusal.antt"), self.named("armcaps_alt/specs/Refusals.antt")]
-        defined += [self.counted("armcaps_top/specs/Jump.antt", "label_kind_word kind")]
+        defined += [self.counted("armcaps_top/specs/ErrorLines.antt", "label_kind_word kind")]
         if (TOP / "crates/armcaps_top/specs/Elf.antt").exists():
             defined += [self.counted("armcaps_top/specs/Elf.antt", "elf_words")]
         told = []
