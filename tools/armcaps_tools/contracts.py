@@ -59,6 +59,15 @@ def words(text):
     return set(re.findall(NAME, re.sub(r"--[^\n]*|\"[^\"]*\"|(?<=[\w)])\.[a-z]\w*|(?<=[{;])\s*\w+\s*=", " ", text)))
 
 
+def maker_of(block, found):
+    """What a private definition that directly follows a record and makes it of its parts says: what the record says."""
+    first = block.splitlines()[0]
+    if found and " record " in f" {found[-1].text.splitlines()[0]} " and "pub " not in first:
+        if re.search(rf"→ {found[-1].name}$", first):
+            return f"`{found[-1].name}` of its parts: {found[-1].comment}"
+    return ""
+
+
 def definitions_of(path, crate):
     """The definitions of one file, in their order, each with the comment that stands directly above it, if one does."""
     text = path.read_text(encoding="utf-8")
@@ -72,7 +81,8 @@ def definitions_of(path, crate):
         item = ITEM.match(block)
         if item and not OTHER.match(block):
             if item.group(1) or item.group(3) or block.startswith("pub "):
-                found.append(Definition(crate, path.stem, item.group(4), " ".join(comment), block))
+                said = " ".join(comment) or maker_of(block, found)
+                found.append(Definition(crate, path.stem, item.group(4), said, block))
             elif found:
                 found[-1].text += "\n" + block  # an equation of the definition above
         comment = []
