@@ -89,8 +89,10 @@ link-lib:
 	rm -f "$(BUILT)/libarmcaps.a"
 	$(AR) rcs "$(BUILT)/libarmcaps.a" "$(BUILT)/armcaps.o"
 	$(CC) $(LDFLAGS) -shared -Wl,-soname,$(SONAME) -Wl,-z,defs -o "$(BUILT)/$(SHARED)" "$(BUILT)/armcaps.o"
-	ln -sf $(SHARED) "$(BUILT)/$(SONAME)"
-	ln -sf $(SONAME) "$(BUILT)/libarmcaps.so"
+	# copies: the gate refuses links in a checkout, and so would fail after this
+	rm -f "$(BUILT)/$(SONAME)" "$(BUILT)/libarmcaps.so"
+	cp "$(BUILT)/$(SHARED)" "$(BUILT)/$(SONAME)"
+	cp "$(BUILT)/$(SHARED)" "$(BUILT)/libarmcaps.so"
 
 install-lib:
 	@test -f "$(BUILT)/$(SHARED)" || { echo "make install-lib: no $(BUILT)/$(SHARED): run make lib first" >&2; exit 1; }

@@ -34,6 +34,17 @@ opened n = n
 pub record UsersHave (n : ℕ) : Type 0 where
   -- each of them
   pub each : opened n ≡ n
+
+-- a pair of numbers
+pub record Pair : Type 0 where
+  pub low : ℕ
+  pub high : ℕ
+
+abbrev pair : ℕ → ℕ → Pair
+pair low high = record { low = low; high = high }
+
+abbrev pub other_pair : ℕ → ℕ → Pair
+other_pair low high = pair high low
 """
 CODE = """pub fn user(n: u32) -> u32
     ensures { result ≡ user_words n }
@@ -68,6 +79,9 @@ class Reader(unittest.TestCase):
                 "used": "",
                 "opened": "what is opened",
                 "UsersHave": "what users have",
+                "Pair": "a pair of numbers",
+                "pair": "`Pair` of its parts: a pair of numbers",
+                "other_pair": "",
             },
         )
 
